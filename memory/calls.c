@@ -331,6 +331,7 @@ static tiff_status pages_into(const struct input *on, struct result *to, uint16_
          0,
          samples,
          2,
+         0,
          0},
         {TIFF_GRAY8,
          2,
@@ -350,7 +351,8 @@ static tiff_status pages_into(const struct input *on, struct result *to, uint16_
          1,
          samples,
          4,
-         1},
+         1,
+         0},
     };
     if (behind)
         return tiff_append_pages(on->file, on->len, pages, 2, to->bytes, ROOM, &to->appended);
