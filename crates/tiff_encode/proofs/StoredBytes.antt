@@ -13,8 +13,8 @@ use Rattle.tiff_encode.specs.declared.encoder.image.samples.ImageSamples.{ImageS
 use Rattle.tiff_encode.specs.declared.encoder.image.samples.ImageSamples.TheVariants.{Typed, Stored}
 use Rattle.tiff_encode.specs.Calls.{write_chunk}
 use Rattle.tiff_encode.specs.Causes.{image_samples}
-use Rattle.tiff_encode.specs.Chunks.{image_page, row_samples, chunk_samples, is_in_order, next_chunk_sample_count, cut_out}
-use Rattle.tiff_encode.specs.Given.{given_count, given_numbers, AreStorable, IsPlain, StoresBytes}
+use Rattle.tiff_encode.specs.Chunks.{image_page, row_samples, chunk_samples, is_in_order, cut_out}
+use Rattle.tiff_encode.specs.Given.{given_count, given_numbers, AreStorable, StoresBytes}
 use Rattle.tiff_encode.specs.Machine.{FileState, OpenImage}
 use Rattle.tiff_encode.specs.Parts.{next_part, next_slice, WritesPart}
 use Rattle.tiff_encode.specs.Stored.{IsChunkStored}

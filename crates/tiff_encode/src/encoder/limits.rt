@@ -1,7 +1,7 @@
 //! The limits of a kind of TIFF file.
 
-ghost use Rattle.std.specs.Prelude.{◌≡◌, ℕ, ◌++◌, ◌≤◌, length, replicate, take};
-ghost use Rattle.tiff_encode.specs.Causes.{is_past, is_past_count};
+ghost use Rattle.std.specs.Prelude.{◌≡◌, ◌≤◌, length};
+ghost use Rattle.tiff_encode.specs.Causes.{is_past};
 ghost use Rattle.tiff_encode.specs.Placing.{field_test, Checks};
 ghost use Rattle.tiff_encode.specs.Value.{filled_field};
 ghost use Rattle.tiff_encode.specs.FileBytes.{offset_len};

@@ -15,7 +15,7 @@ use crate::encoder::directory::state::{DirectoryState, HasDirectory};
 use crate::encoder::image::state::ImageState;
 use crate::encoder::kind::{DirectoryOffset, TiffKind, TiffKindStandard};
 use tiff_base::directory::{Directory, Entry};
-use tiff_base::error::{TiffError, TiffResult};
+use tiff_base::error::TiffResult;
 use tiff_base::io::Sink;
 use tiff_base::tags::{Tag, Type};
 use tiff_value::buffer::ValueBuffer;

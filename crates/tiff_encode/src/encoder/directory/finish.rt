@@ -1,8 +1,7 @@
 //! Ends directories.
 
-ghost use Rattle.std.specs.Prelude.{◌≡◌, ℕ, ◌+◌, ◌^◌, ◌<◌, ◌≤◌, length, IfOk, MatchResult, if◌then◌else◌, None, Some, false};
+ghost use Rattle.std.specs.Prelude.{◌≡◌, ℕ, ◌+◌, ◌<◌, ◌≤◌, length, IfOk, MatchResult, if◌then◌else◌, None, Some, false};
 ghost use Rattle.std.specs.FinMap as map;
-ghost use Rattle.tiff_base.specs.Directory.{link_offset};
 ghost use Rattle.tiff_encode.specs.Calls as calls;
 ghost use Rattle.tiff_encode.specs.Causes.{end_of, finish_cause, is_past};
 ghost use Rattle.tiff_encode.specs.Ends.{Ends};

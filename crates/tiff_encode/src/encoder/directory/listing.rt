@@ -3,10 +3,9 @@
 ghost use Rattle.std.specs.Prelude.{◌≡◌, ◌++◌, IfOk, OnOk};
 ghost use Rattle.std.specs.FinMap as map;
 ghost use Rattle.std.specs.List.{list_any};
-ghost use Rattle.tiff_base.specs.Number.{le};
 ghost use Rattle.tiff_encode.specs.Causes.{is_past, is_past_count};
 ghost use Rattle.tiff_encode.specs.Placing.{end_test, Checks};
-ghost use Rattle.tiff_encode.specs.FileBytes.{count_len, directory_bytes, entry_bytes, offset_len};
+ghost use Rattle.tiff_encode.specs.FileBytes.{count_len, directory_bytes, entry_bytes};
 
 use crate::encoder::directory::state::DirectoryState;
 use crate::encoder::limits::{is_past_offset, offset_size};

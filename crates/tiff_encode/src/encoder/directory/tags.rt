@@ -1,6 +1,6 @@
 //! Writes tags one after another.
 
-ghost use Rattle.std.specs.Prelude.{◌≡◌, ℕ, ◌≤◌, ◌/◌, ◌%◌, ◌++◌, [], ◌∷◌, length, IfErr, OnErr, Ok};
+ghost use Rattle.std.specs.Prelude.{◌≡◌, ◌≤◌, ◌/◌, ◌%◌, ◌++◌, [], ◌∷◌, length, IfErr, OnErr, Ok};
 ghost use Rattle.tiff_base.specs.Types.{type_size};
 ghost use Rattle.tiff_value.specs.Data.{data_of, rationals, u16s, u32s};
 ghost use Rattle.tiff_encode.specs.Calls as calls;

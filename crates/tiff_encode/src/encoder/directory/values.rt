@@ -1,6 +1,6 @@
 //! Writes values: for a field, or alone.
 
-ghost use Rattle.std.specs.Prelude.{◌≡◌, ℕ, ◌^◌, ◌<◌, length, IsSome, OnOk, MatchResult, None};
+ghost use Rattle.std.specs.Prelude.{◌≡◌, ◌<◌, IsSome, MatchResult, None};
 ghost use Rattle.tiff_base.specs.declared.tags.«Type».{«Type»};
 ghost use Rattle.tiff_encode.specs.Calls as calls;
 ghost use Rattle.tiff_encode.specs.Causes.{end_of, field_cause, order_cause};

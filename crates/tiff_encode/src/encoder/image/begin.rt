@@ -1,12 +1,12 @@
 //! Begins images.
 
-ghost use Rattle.std.specs.Prelude.{◌≡◌, ℕ, ◌+◌, ◌*◌, ◌^◌, ◌<◌, [], ◌∷◌, length, IfOk, MatchOption, MatchResult, None, Some, true};
+ghost use Rattle.std.specs.Prelude.{◌≡◌, ◌+◌, ◌*◌, ◌<◌, [], ◌∷◌, IfOk, MatchOption, MatchResult, None, Some, true};
 ghost use Rattle.tiff_base.specs.Types.{type_size};
 ghost use Rattle.tiff_value.specs.ColorType.{columns_of};
 ghost use Rattle.tiff_encode.specs.Calls as calls;
 ghost use Rattle.tiff_encode.specs.Calls.{default_rows, image_in, new_directory};
 ghost use Rattle.tiff_encode.specs.Causes as causes;
-ghost use Rattle.tiff_encode.specs.Causes.{end_of, image_cause, is_past, new_image_cause};
+ghost use Rattle.tiff_encode.specs.Causes.{image_cause, is_past, new_image_cause};
 ghost use Rattle.tiff_encode.specs.Ends.{Ends};
 ghost use Rattle.tiff_encode.specs.Machine.{compression_method};
 ghost use Rattle.tiff_encode.specs.Placing.{Checks};

@@ -1,6 +1,6 @@
 //! Writes the samples of a whole image.
 
-ghost use Rattle.std.specs.Prelude.{◌≡◌, ℕ, ◌+◌, ◌*◌, ◌^◌, ◌<◌, ◌≤◌, ◌++◌, length, map, replicate, slice_index, MatchResult, None, Some, false, true};
+ghost use Rattle.std.specs.Prelude.{◌≡◌, ◌+◌, ◌*◌, ◌^◌, ◌<◌, ◌≤◌, ◌++◌, length, map, slice_index, MatchResult, None, Some, true};
 ghost use Rattle.tiff_base.specs.Types.{type_size};
 ghost use Rattle.tiff_page.specs.Counts.{all_chunks};
 ghost use Rattle.tiff_page.specs.Pixels.{numbers_in, tabulate, stored_samples};

@@ -1,6 +1,6 @@
 //! Writes images.
 
-ghost use Rattle.std.specs.Prelude.{◌≡◌, ℕ, ◌^◌, ◌<◌, List, length, map, IfOk, OnErr, Ok, Some, false};
+ghost use Rattle.std.specs.Prelude.{◌≡◌, ℕ, ◌^◌, ◌<◌, List, length, map, IfOk, Ok, Some, false};
 ghost use Rattle.tiff_base.specs.Types.{type_size};
 ghost use Rattle.tiff_value.specs.ColorType.{sample_number};
 ghost use Rattle.tiff_encode.specs.Calls as calls;
@@ -180,16 +180,9 @@ impl<'a, W: Sink, K: TiffKind, C: ColorType> DirectoryEncoder<'a, W, K, ImageSta
             self.old.encoder.now self.new.encoder.now self.new.state m }
     {
         self.state.fact_fits();
-        match self.encoder.store_chunk(&mut self.state, samples) {
-            Ok(()) => {
-                self.encoder.fact_short();
-                return Ok(());
-            }
-            Err(fault) => {
-                self.encoder.fact_short();
-                return Err(fault);
-            }
-        }
+        let done = self.encoder.store_chunk(&mut self.state, samples);
+        self.encoder.fact_short();
+        done
     }
 
     /// Writes the next strip, as `write_chunk` does. Errors: those of `write_chunk`, and for an
@@ -210,16 +203,9 @@ impl<'a, W: Sink, K: TiffKind, C: ColorType> DirectoryEncoder<'a, W, K, ImageSta
             self.old.encoder.now self.new.encoder.now self.new.state m }
     {
         self.state.fact_fits();
-        match self.encoder.store_strip(&mut self.state, samples) {
-            Ok(()) => {
-                self.encoder.fact_short();
-                return Ok(());
-            }
-            Err(fault) => {
-                self.encoder.fact_short();
-                return Err(fault);
-            }
-        }
+        let done = self.encoder.store_strip(&mut self.state, samples);
+        self.encoder.fact_short();
+        done
     }
 
     /// Ends the image: writes the bits and the formats of its samples, and the offsets and byte
@@ -259,15 +245,11 @@ impl<'a, W: Sink, K: TiffKind, C: ColorType> DirectoryEncoder<'a, W, K, ImageSta
         let DirectoryEncoder { encoder, mut state } = self;
         state.fact_fits();
         encoder.fact_fits();
-        match encoder.finish_image(&mut state) {
-            Ok(_) => {
-                encoder.fact_short();
-                return Ok(());
-            }
-            Err(fault) => {
-                encoder.fact_short();
-                return Err(fault);
-            }
+        let done = encoder.finish_image(&mut state);
+        encoder.fact_short();
+        match done {
+            Ok(_) => return Ok(()),
+            Err(fault) => return Err(fault),
         }
     }
 
@@ -358,15 +340,8 @@ impl<'a, W: Sink, K: TiffKind, C: ColorType> DirectoryEncoder<'a, W, K, ImageSta
         state.fact_fits();
         state.fact_type();
         samples.fact_numbers();
-        match encoder.write_image_data(&mut state, samples) {
-            Ok(()) => {
-                encoder.fact_short();
-                return Ok(());
-            }
-            Err(fault) => {
-                encoder.fact_short();
-                return Err(fault);
-            }
-        }
+        let done = encoder.write_image_data(&mut state, samples);
+        encoder.fact_short();
+        done
     }
 }

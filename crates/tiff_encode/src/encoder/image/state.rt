@@ -1,6 +1,6 @@
 //! The state of an open image.
 
-ghost use Rattle.std.specs.Prelude.{◌≡◌, ℕ, ◌^◌, ◌<◌, ◌≤◌, MatchOption, false, true};
+ghost use Rattle.std.specs.Prelude.{◌≡◌, ◌^◌, ◌<◌, ◌≤◌, MatchOption, false, true};
 ghost use Rattle.tiff_value.specs.ColorType as color_type;
 ghost use Rattle.tiff_page.specs.Counts.{all_chunks, parts, planes_of};
 ghost use Rattle.tiff_page.specs.Pixels.{stored_samples};

@@ -65,57 +65,30 @@ fn hand_in<E, A, H: ValueVisitor<E, A>>(state: &mut E, value: &JobValue) -> Tiff
     }
 }
 
-// Passes a value to `write_entry`.
-pub(crate) struct ForField;
+// Passes a value to `write_entry`, for a directory that has room for the entry, or hasn't.
+pub(crate) struct ForField<const ROOM: bool>;
 
-impl<W: Sink, K: TiffKind> ValueVisitor<TiffEncoder<W, K>, Entry> for ForField {
+impl<W: Sink, K: TiffKind, const ROOM: bool> ValueVisitor<TiffEncoder<W, K>, Entry>
+    for ForField<ROOM> {
     ghost use Rattle.tiff_base.specs.Field.{Field};
     ghost use Rattle.tiff_encode.specs.Calls as calls;
     ghost use Rattle.tiff_encode.specs.Ends.{Ends};
     ghost use Rattle.tiff_encode.specs.Leaves.{Leaves};
     ghost use Rattle.tiff_encode.specs.Model.{Model, FileContains};
-    ghost use Rattle.std.specs.Prelude.{true};
     ghost use Rattle.tiff_encode.specs.Rooms.{IsInRoom};
 
     ghost hands = { λ given old result new.
         Ends (λ (e : Field). e) (calls.write_entry given old) result old new
         × ((m : Model) → FileContains old.kind old.bytes m
         → Leaves (calls.write_entry given old) result old new m)
-        × IsInRoom true old new result };
+        × IsInRoom ROOM old new result };
 
     fn list<T: TiffScalar>(state: &mut TiffEncoder<W, K>, values: &Vec<T>) -> TiffResult<Entry> {
-        state.place_given(&Slice(values), true)
+        state.place_given(&Slice(values), ROOM)
     }
 
     fn text(state: &mut TiffEncoder<W, K>, text: &String) -> TiffResult<Entry> {
-        state.place_given(&Text(text), true)
-    }
-}
-
-// Passes a value to `write_entry` without room for the entry.
-pub(crate) struct ForNoField;
-
-impl<W: Sink, K: TiffKind> ValueVisitor<TiffEncoder<W, K>, Entry> for ForNoField {
-    ghost use Rattle.tiff_base.specs.Field.{Field};
-    ghost use Rattle.tiff_encode.specs.Calls as calls;
-    ghost use Rattle.tiff_encode.specs.Ends.{Ends};
-    ghost use Rattle.tiff_encode.specs.Leaves.{Leaves};
-    ghost use Rattle.tiff_encode.specs.Model.{Model, FileContains};
-    ghost use Rattle.std.specs.Prelude.{false};
-    ghost use Rattle.tiff_encode.specs.Rooms.{IsInRoom};
-
-    ghost hands = { λ given old result new.
-        Ends (λ (e : Field). e) (calls.write_entry given old) result old new
-        × ((m : Model) → FileContains old.kind old.bytes m
-        → Leaves (calls.write_entry given old) result old new m)
-        × IsInRoom false old new result };
-
-    fn list<T: TiffScalar>(state: &mut TiffEncoder<W, K>, values: &Vec<T>) -> TiffResult<Entry> {
-        state.place_given(&Slice(values), false)
-    }
-
-    fn text(state: &mut TiffEncoder<W, K>, text: &String) -> TiffResult<Entry> {
-        state.place_given(&Text(text), false)
+        state.place_given(&Text(text), ROOM)
     }
 }
 
@@ -180,10 +153,11 @@ impl<W: Sink, K: TiffKind> TiffEncoder<W, K> {
         ensures leaves { (m : Model) → FileContains self.old.kind self.old.bytes m
             → Leaves (calls.write_entry (value_data value.now) self.old) result self.old self.new m }
     {
-        if !has_room {
-            return hand_in::<_, _, ForNoField>(self, value);
+        if has_room {
+            hand_in::<_, _, ForField<true>>(self, value)
+        } else {
+            hand_in::<_, _, ForField<false>>(self, value)
         }
-        hand_in::<_, _, ForField>(self, value)
     }
 
     /// `write_data` of a value of a job.

@@ -1,20 +1,13 @@
-use Rattle.std.proofs.Common.{Ok, Err, subst, sym}
+use Rattle.std.proofs.Common.{subst, sym}
 use Rattle.tiff_base.specs.Types.{type_size}
 use Rattle.tiff_encode.specs.Given.{given_numbers}
 use Rattle.tiff_encode.specs.ImageData.{AreNumbers}
 use Rattle.tiff_encode.proofs.Data.Shows.{data_leaves}
 use Rattle.tiff_encode.proofs.encoder.image.encoder.DirectoryEncoder+W+K+ImageState+C.write_given.Goals as goal
 
-pub returns-in-Ok-clause-leaves : goal.returns-in-Ok-clause-leaves
-returns-in-Ok-clause-leaves g c m s p =
+pub returns-clause-leaves : goal.returns-clause-leaves
+returns-clause-leaves g c m s p =
     let numbers =
     given_numbers (type_size g.C.Inner.TiffValue.value_type) g.C.Inner.Sample.bits c.args.samples in
-    data_leaves c.args.self.state numbers (Ok tt) c.args.self.encoder.now c.write_image_data.new.self m c.fact_fits.ensures
-    (subst (λ size. AreNumbers size numbers) (sym c.fact_type.ensures) c.fact_numbers.ensures) c.fact_short.ensures s p c.in-Ok.ensures
-
-pub returns-in-Err-clause-leaves : goal.returns-in-Err-clause-leaves
-returns-in-Err-clause-leaves g c m s p =
-    let numbers =
-    given_numbers (type_size g.C.Inner.TiffValue.value_type) g.C.Inner.Sample.bits c.args.samples in
-    data_leaves c.args.self.state numbers (Err c.in-Err.fault) c.args.self.encoder.now c.write_image_data.new.self m c.fact_fits.ensures
-    (subst (λ size. AreNumbers size numbers) (sym c.fact_type.ensures) c.fact_numbers.ensures) c.fact_short-in-Err.ensures s p c.in-Err.ensures
+    data_leaves c.args.self.state numbers c.write_image_data-done.result c.args.self.encoder.now c.write_image_data-done.new.self m c.fact_fits.ensures
+    (subst (λ size. AreNumbers size numbers) (sym c.fact_type.ensures) c.fact_numbers.ensures) c.fact_short.ensures s p c.write_image_data-done.ensures

@@ -1,16 +1,11 @@
-use Rattle.std.proofs.Common.{Ok, Err, length, map}
+use Rattle.std.proofs.Common.{length, map}
 use Rattle.tiff_base.specs.Types.{type_size}
 use Rattle.tiff_value.specs.ColorType.{sample_number}
 use Rattle.tiff_encode.specs.Causes.{write_strip_cause}
 use Rattle.tiff_encode.proofs.Data.Strips.{strip_left}
 use Rattle.tiff_encode.proofs.encoder.image.encoder.DirectoryEncoder+W+K+ImageState+C.write_strip.Goals as goal
 
-pub returns-in-Ok-clause-leaves : goal.returns-in-Ok-clause-leaves
-returns-in-Ok-clause-leaves g c m s =
-    strip_left c.args.self.now.state (map (sample_number (type_size g.C.Inner.TiffValue.value_type) g.C.Inner.Sample.bits) c.args.samples.now) c.args.self.now.encoder.now c.store_strip.new.self c.store_strip.new.image m
-    (write_strip_cause c.args.self.now.encoder.now c.args.self.now.state (length c.args.samples.now) 0) (Ok tt) c.fact_fits.ensures c.fact_short.ensures s c.in-Ok.ensures
-
-pub returns-in-Err-clause-leaves : goal.returns-in-Err-clause-leaves
-returns-in-Err-clause-leaves g c m s =
-    strip_left c.args.self.now.state (map (sample_number (type_size g.C.Inner.TiffValue.value_type) g.C.Inner.Sample.bits) c.args.samples.now) c.args.self.now.encoder.now c.store_strip.new.self c.store_strip.new.image m
-    (write_strip_cause c.args.self.now.encoder.now c.args.self.now.state (length c.args.samples.now) 0) (Err c.in-Err.fault) c.fact_fits.ensures c.fact_short-in-Err.ensures s c.in-Err.ensures
+pub returns-clause-leaves : goal.returns-clause-leaves
+returns-clause-leaves g c m s =
+    strip_left c.args.self.now.state (map (sample_number (type_size g.C.Inner.TiffValue.value_type) g.C.Inner.Sample.bits) c.args.samples.now) c.args.self.now.encoder.now c.store_strip-done.new.self c.store_strip-done.new.image m
+    (write_strip_cause c.args.self.now.encoder.now c.args.self.now.state (length c.args.samples.now) 0) c.store_strip-done.result c.fact_fits.ensures c.fact_short.ensures s c.store_strip-done.ensures
