@@ -2,6 +2,7 @@
 //! change, which are bytes behind the file and that link.
 #![tactic(auto)]
 
+pub mod failed_writes;
 pub mod ghost_bytes;
 pub mod last_link;
 pub mod run;

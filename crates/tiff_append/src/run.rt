@@ -1,6 +1,6 @@
 //! Jobs of an encoder behind a file.
 
-ghost use Rattle.std.specs.Prelude.{◌≡◌, length, MatchResult};
+ghost use Rattle.std.specs.Prelude.{length, MatchResult};
 ghost use Rattle.tiff_encode.specs.FileBytes.{offset_len};
 ghost use Rattle.tiff_append.specs.Behind.{RefusesLink, RunsAt, RunsBehind};
 

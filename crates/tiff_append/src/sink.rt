@@ -1,9 +1,9 @@
 //! A sink that goes on behind a file.
 
-ghost use Rattle.std.specs.Prelude.{◌≡◌, ◌+◌, ◌^◌, ◌≤◌, ◌<◌, ◌++◌, length, None, Some, IfErr, IfOk, IfSome, OnErr, OnOk};
+ghost use Rattle.std.specs.Prelude.{◌≡◌, ◌+◌, ◌^◌, ◌≤◌, ◌<◌, ◌++◌, length, IfErr, IfOk, IfSome, OnErr, OnOk};
 ghost use Rattle.tiff_base.specs.SourceAndSink.{put};
 
-use crate::ghost_bytes::GhostBytes;
+use crate::failed_writes::FailedWrites;
 use crate::source::AddedSource;
 use std::alloc::Global;
 use tiff_base::error::{TiffError, TiffResult};
@@ -25,9 +25,7 @@ pub struct BehindSink<'a> {
     at: usize,
     link: Vec<u8>,
     more: Vec<u8>,
-    // one byte for each write that failed
-    failed: GhostBytes,
-    fault: Option<SinkFault>,
+    failed: FailedWrites,
     ghost within: { at + length link.items ≤ length file.now },
     ghost short: { length file.now + length more.items < 2 ^ 63 },
 }
@@ -47,7 +45,7 @@ pub fn grow(items: &mut Vec<u8>, bytes: &[u8]) -> Result<(), SinkFault>
     Ok(())
 }
 
-/// Overwrites bytes of a list.
+/// Overwrites bytes of a list, which has as many there.
 pub fn overwrite_in(items: &mut Vec<u8>, from: usize, bytes: &[u8])
     requires { from + length bytes.now ≤ length items.old.items }
     ensures bytes { items.new.items ≡ put items.old.items from bytes.now }
@@ -81,8 +79,7 @@ impl<'a> BehindSink<'a> {
             at,
             link,
             more: Vec::new(alloc),
-            failed: GhostBytes::new(),
-            fault: None,
+            failed: FailedWrites::none(),
         })
     }
 
@@ -97,7 +94,6 @@ impl<'a> BehindSink<'a> {
             link,
             more,
             failed: _,
-            fault: _,
         } = self;
         if file.len() != len || place != at || link.len() != size {
             return None;
@@ -144,21 +140,6 @@ impl<'a> BehindSink<'a> {
         }
         Err(SinkFault::Device)
     }
-
-    // Keeps the error of a write, if it failed, and counts it. Returns the answer of the write.
-    fn noted(&mut self, answer: Result<usize, SinkFault>) -> Result<usize, SinkFault>
-        ensures same { result ≡ answer }
-        ensures contents { behind_contents self.new ≡ behind_contents self.old }
-        ensures ok { OnOk answer ((self.new.failed ≡ self.old.failed) × (self.new.fault ≡ None)) }
-        ensures err { IfErr answer (λ e. (length self.new.failed ≡ length self.old.failed + 1)
-            × (self.new.fault ≡ Some e)) }
-    {
-        self.fault = answer.err();
-        if self.fault.is_some() {
-            self.failed.push(0);
-        }
-        answer
-    }
 }
 
 impl Sink for BehindSink<'_> {
@@ -169,9 +150,9 @@ impl Sink for BehindSink<'_> {
 
     ghost contents = { behind_contents };
 
-    ghost failures = { λ s. length s.failed };
+    ghost failures = { λ s. length s.failed.writes };
 
-    ghost fault = { λ s. s.fault };
+    ghost fault = { λ s. s.failed.last };
 
     ghost short = { λ s. Prim.omega (
       arith,
@@ -186,7 +167,7 @@ impl Sink for BehindSink<'_> {
 
     fn append(&mut self, bytes: &[u8]) -> Result<usize, SinkFault> {
         let answer = self.add(bytes);
-        self.noted(answer)
+        self.failed.note(answer)
     }
 
     fn reserve(&mut self, len: u64) {
@@ -203,11 +184,11 @@ impl Sink for BehindSink<'_> {
             Ok(()) => Ok(len),
             Err(_) => Err(SinkFault::OutOfMemory),
         };
-        Some(self.noted(answer))
+        Some(self.failed.note(answer))
     }
 
     fn overwrite(&mut self, at: u64, bytes: &[u8]) -> Result<usize, SinkFault> {
         let answer = self.change(at, bytes);
-        self.noted(answer)
+        self.failed.note(answer)
     }
 }

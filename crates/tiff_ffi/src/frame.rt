@@ -1,9 +1,10 @@
 //! The frame of a file of one image: the bytes before its samples, and those behind them.
 
-ghost use Rattle.std.specs.Prelude.{◌≡◌, ◌+◌, ◌^◌, ◌≤◌, ◌<◌, [], ◌∷◌, ◌++◌, length, drop, None, Some, IsSome, IfSome, IfOk, IfErr, OnOk, OnErr};
+ghost use Rattle.std.specs.Prelude.{◌≡◌, ◌+◌, ◌^◌, ◌≤◌, ◌<◌, [], ◌++◌, length, drop, None, Some, IfSome, IfOk, OnErr};
 ghost use Rattle.tiff_ffi.specs.Writer as writer;
 
 use std::alloc::Global;
+use tiff_append::failed_writes::FailedWrites;
 use tiff_append::ghost_bytes::GhostBytes;
 use tiff_append::sink::{MAX_LEN, grow};
 use tiff_base::io::{ByteRun, Sink, SinkFault};
@@ -22,9 +23,7 @@ pub struct FrameSink {
     start: usize,
     room: usize,
     count: usize,
-    // one byte for each write that failed
-    failed: GhostBytes,
-    fault: Option<SinkFault>,
+    failed: FailedWrites,
     ghost counted: { count ≡ length passed },
     ghost short: { length front.items + (count + length behind.items) < 2 ^ 63 },
     ghost in_start: { length front.items ≤ start },
@@ -59,8 +58,7 @@ impl FrameSink {
             start,
             room,
             count: 0,
-            failed: GhostBytes::new(),
-            fault: None,
+            failed: FailedWrites::none(),
         }
     }
 
@@ -77,7 +75,6 @@ impl FrameSink {
             room: _,
             count,
             failed: _,
-            fault: _,
         } = self;
         if front.len() != start || count != samples.len() {
             return None;
@@ -128,21 +125,6 @@ impl FrameSink {
         self.front[at as usize..to as usize].copy_from_slice(bytes);
         Ok(bytes.len())
     }
-
-    // Keeps the error of a write, if it failed, and counts it. Returns the answer of the write.
-    fn noted(&mut self, answer: Result<usize, SinkFault>) -> Result<usize, SinkFault>
-        ensures same { result ≡ answer }
-        ensures contents { frame_contents self.new ≡ frame_contents self.old }
-        ensures ok { OnOk answer ((self.new.failed ≡ self.old.failed) × (self.new.fault ≡ None)) }
-        ensures err { IfErr answer (λ e. (length self.new.failed ≡ length self.old.failed + 1)
-            × (self.new.fault ≡ Some e)) }
-    {
-        self.fault = answer.err();
-        if self.fault.is_some() {
-            self.failed.push(0);
-        }
-        answer
-    }
 }
 
 impl Sink for FrameSink {
@@ -151,9 +133,9 @@ impl Sink for FrameSink {
 
     ghost contents = { frame_contents };
 
-    ghost failures = { λ s. length s.failed };
+    ghost failures = { λ s. length s.failed.writes };
 
-    ghost fault = { λ s. s.fault };
+    ghost fault = { λ s. s.failed.last };
 
     ghost short = { λ s. Prim.omega (
       arith,
@@ -169,7 +151,7 @@ impl Sink for FrameSink {
 
     fn append(&mut self, bytes: &[u8]) -> Result<usize, SinkFault> {
         let answer = self.take_next(bytes);
-        self.noted(answer)
+        self.failed.note(answer)
     }
 
     // Samples are only counted, so their bytes needn't be made.
@@ -181,13 +163,12 @@ impl Sink for FrameSink {
         }
         run.show_to(&mut self.passed);
         self.count += len;
-        self.fault = None;
-        Some(Ok(len))
+        Some(self.failed.note(Ok(len)))
     }
 
     fn overwrite(&mut self, at: u64, bytes: &[u8]) -> Result<usize, SinkFault> {
         let answer = self.put_front(at, bytes);
-        self.noted(answer)
+        self.failed.note(answer)
     }
 }
 
