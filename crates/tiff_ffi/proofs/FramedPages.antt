@@ -1,9 +1,8 @@
 -- A file of pages that is written around their samples.
-use Rattle.std.proofs.Common.{◌≡◌, ℕ, ◌≤◌, ◌⊎◌, inl, inr, List, [], Bor, Option, None, Some, Result, Ok, Err, length, map, take, min, refl, subst, sym, ap, ◌∙◌}
+use Rattle.std.proofs.Common.{◌≡◌, ℕ, ◌⊎◌, inl, inr, List, [], Bor, Option, None, Some, Result, Ok, Err, length, map, take, min, refl, subst, sym, ap, ◌∙◌}
 use Rattle.std.proofs.lemmas.List.{take_min}
 use Rattle.std.proofs.lemmas.Simd.{map-map}
 use Rattle.tiff_base.specs.declared.error.TiffError.{TiffError}
-use Rattle.tiff_base.specs.declared.error.TiffError.TheVariants.{OutOfMemory}
 use Rattle.tiff_base.specs.declared.tags.FileKind.{FileKind}
 use Rattle.tiff_encode.specs.Model.{header_link}
 use Rattle.tiff_ffi.specs.declared.pages_around.FramedAnswer.{FramedAnswer}
@@ -14,8 +13,8 @@ use Rattle.tiff_ffi.specs.declared.pages.PagesEnd.{PagesEnd}
 use Rattle.tiff_ffi.specs.declared.pages.PagesJobs.{PagesJobs}
 use Rattle.tiff_ffi.specs.declared.pages.RefusedPage.{RefusedPage}
 use Rattle.tiff_ffi.specs.Jobs.{RanJobs}
-use Rattle.tiff_ffi.specs.Pages.{GoesOn, LeftPages, PagesGoOn, RanPages, RunsPages, jobs_of_pages, pages_view, refused_page}
-use Rattle.tiff_ffi.specs.PagesFrame.{AnswersFramed, AnswersKind, EndsFramed, HasRoom, PagesFrameTells, Results, TellsFrame, TellsFramed, framed_file, samples_in}
+use Rattle.tiff_ffi.specs.Pages.{GoesOn, LeftPages, PagesGoOn, RanPages, jobs_of_pages, pages_view, refused_page}
+use Rattle.tiff_ffi.specs.PagesFrame.{AnswersFramed, AnswersKind, EndsFramed, HasRoom, PagesFrameTells, Results, TellsFrame, TellsFramed, samples_in}
 use Rattle.tiff_ffi.specs.Spliced.{spliced}
 use Rattle.tiff_ffi.specs.Writer.{Puts, kind_of}
 use Rattle.tiff_ffi.proofs.PagesRan.{pages_ran}

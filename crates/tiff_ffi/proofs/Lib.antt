@@ -29,7 +29,6 @@ mod Plans
 mod Rewritten
 mod SeenFiles
 mod Parts
-mod SameSamples
 mod Spliced
 mod Stored
 mod Stretches

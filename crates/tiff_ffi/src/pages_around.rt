@@ -1,6 +1,6 @@
 //! A file of several pages around the samples that C has.
 
-ghost use Rattle.std.specs.Prelude.{◌≡◌, ◌≤◌, [], ◌++◌, length, map, drop, take, true, IfOk, IfSome, MatchResult, Ok};
+ghost use Rattle.std.specs.Prelude.{◌≡◌, ◌≤◌, [], length, map, IfOk, IfSome, Ok};
 ghost use Rattle.tiff_ffi.specs.Pages.{RanPages};
 ghost use Rattle.tiff_ffi.specs.PagesFrame as spec;
 ghost use Rattle.tiff_ffi.specs.PagesFrame.{AnswersFramed, EndsFramed, PutsFrame, TellsFramed, samples_in};
@@ -12,11 +12,12 @@ use crate::jobs::refused_of;
 use crate::pages::{
     NO_PAGE, NewPage, PagesEnd, PagesJobs, Refusal, RefusedPage, jobs_of, refused_page, run_in,
 };
-use crate::pages_sink::PagesSink;
+use crate::pages_sink::{LentSamples, PagesSink};
 use crate::status::fault_number;
 use crate::writer::{kind_of, put_file};
 use std::alloc::{AllocError, Global};
-use tiff_base::error::{TiffError, TiffFormatError, TiffResult};
+use std::marker::Brand;
+use tiff_base::error::{TiffFormatError, TiffResult};
 use tiff_base::tags::FileKind;
 use tiff_encode::encoder::script::run_jobs;
 use tiff_encode::encoder::{TiffKind, TiffKindBig, TiffKindStandard};
@@ -69,40 +70,24 @@ fn samples_of<'a>(
     all_samples(alloc, &pages[..most.min(pages.len())])
 }
 
-// Whether the samples of pages are these.
-fn are_same(some: &[&[u8]], samples: &[&[u8]]) -> bool
-    ensures { result ≡ true → map (λ s. s.now) some.now ≡ map (λ s. s.now) samples.now }
-{
-    if some.len() != samples.len() {
-        return false;
-    }
-    for i in 0..some.len() {
-        if some[i] != samples[i] {
-            return false;
-        }
-    }
-    true
-}
-
-// Runs the jobs of pages in the chain around their samples, in a new file of the kind `K`. None where
-// memory is out, or the sink can't write a link. `lent` are the samples too: the encoder doesn't say
-// that the sink which it returns still has them, so they are compared.
-fn run_around<K: TiffKind>(
+// Runs the jobs of pages in the chain around these samples, in a new file of the kind `K`. None where
+// memory is out, or the sink can't write a link.
+fn run_around<K: TiffKind, P: LentSamples>(
     alloc: Global,
     jobs: &PagesJobs<'_>,
-    lent: Vec<&[u8]>,
-    samples: &[&[u8]],
+    samples: Vec<&[u8]>,
 ) -> Option<FramedPages>
-    requires { jobs.now.children.items ≡ [] }
-    ensures { IfSome result (λ f. (length f.fronts.items ≤ length samples.now)
+    requires alone { jobs.now.children.items ≡ [] }
+    requires lent { map (λ s. s.now) samples.items ≡ P.samples }
+    ensures { IfSome result (λ f. (length f.fronts.items ≤ length P.samples)
         × RanPages K.kind jobs.now (Ok (
-          spliced f.around.items f.fronts.items (map (λ s. s.now) samples.now),
+          spliced f.around.items f.fronts.items P.samples,
           f.refused,
         ))) }
 {
     let mut replies = Vec::new(alloc);
-    let sink = PagesSink::new(alloc, lent);
-    let Ok(sink) = run_jobs::<PagesSink<'_>, K>(alloc, sink, &jobs.chain, &mut replies) else {
+    let sink = PagesSink::<P>::new(alloc, samples);
+    let Ok(sink) = run_jobs::<PagesSink<'_, P>, K>(alloc, sink, &jobs.chain, &mut replies) else {
         return None;
     };
     if sink.has_failed() {
@@ -110,9 +95,6 @@ fn run_around<K: TiffKind>(
     }
     let (refused, step) = refused_of(replies);
     let frame = sink.into_frame()?;
-    if !are_same(&frame.samples, samples) {
-        return None;
-    }
     Some(FramedPages {
         around: frame.around,
         fronts: frame.fronts,
@@ -134,11 +116,10 @@ fn run_chain(
     if !jobs.children.is_empty() {
         return None;
     }
-    let lent = samples_of(alloc, pages, most).ok()?;
     let samples = samples_of(alloc, pages, most).ok()?;
     match kind {
-        FileKind::Classic => run_around::<TiffKindStandard>(alloc, jobs, lent, &samples),
-        FileKind::Big => run_around::<TiffKindBig>(alloc, jobs, lent, &samples),
+        FileKind::Classic => run_around::<TiffKindStandard, Brand>(alloc, jobs, samples),
+        FileKind::Big => run_around::<TiffKindBig, Brand>(alloc, jobs, samples),
     }
 }
 

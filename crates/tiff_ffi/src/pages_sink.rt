@@ -1,22 +1,37 @@
 //! The frame of a file of pages: the bytes around their samples.
 
-ghost use Rattle.std.specs.Prelude.{◌≡◌, ◌+◌, ◌^◌, ◌≤◌, ◌<◌, [], ◌∷◌, ◌++◌, length, map, sum, take, drop, true, false, None, Some, IfSome, IfOk, IfErr, OnOk, OnErr};
+ghost use Rattle.std.specs.Prelude.{◌≡◌, ◌+◌, ◌^◌, ◌≤◌, ◌<◌, [], ◌∷◌, ◌++◌, length, map, sum, take, drop, true, false, None, Some, IfSome, IfOk, OnOk, OnErr};
 ghost use Rattle.tiff_ffi.specs.Spliced.{samples_at, spliced};
 ghost use Rattle.tiff_base.specs.SourceAndSink.{put};
 
 use std::alloc::Global;
-use tiff_append::ghost_bytes::GhostBytes;
+use std::marker::{Brand, PhantomData};
+use tiff_append::failed_writes::FailedWrites;
 use tiff_append::sink::{MAX_LEN, grow, overwrite_in};
 use tiff_base::io::{Sink, SinkFault};
 
-/// The frame of a file of pages: the bytes that aren't samples which a caller has, in their order;
-/// of each of the first pages how many of these are in front of its samples, behind those of the
-/// page before it; and the samples of pages.
+/// The samples of pages. Only contracts see them here, so a caller that passes `Brand` picks them. A
+/// sink has them in its type, since an encoder returns a sink of the same type, and says no more of it
+/// than its bytes.
+pub trait LentSamples {
+    ghost use Rattle.std.specs.Prelude.{ℕ, List};
+
+    ghost samples: { List (List ℕ) };
+}
+
+impl LentSamples for Brand {
+    ghost use Rattle.std.specs.Prelude.{[]};
+
+    ghost samples = { [] };
+}
+
+/// The frame of a file of pages: the bytes that aren't samples which a caller has, in their order; and
+/// of each of the first pages how many of these are in front of its samples, behind those of the page
+/// before it.
 #[derive(Drop)]
-pub struct PagesFrame<'a> {
+pub struct PagesFrame {
     pub around: Vec<u8>,
     pub fronts: Vec<usize>,
-    pub samples: Vec<&'a [u8]>,
 }
 
 /// A sink in memory for a file of pages, which keeps its frame: where bytes are appended that equal
@@ -26,9 +41,10 @@ pub struct PagesFrame<'a> {
 /// samples that it doesn't store, and bytes in front of the samples of any page but the last one
 /// whose samples are all there.
 #[derive(Drop)]
-pub struct PagesSink<'a> {
+pub struct PagesSink<'a, P: LentSamples> {
     // the samples of all pages
     samples: Vec<&'a [u8]>,
+    lent: PhantomData<P>,
     // the bytes that aren't samples, but for the samples that are counted at the end
     around: Vec<u8>,
     // of each page whose samples are all there, how many of the bytes are in front of them
@@ -39,10 +55,8 @@ pub struct PagesSink<'a> {
     count: usize,
     // how many bytes there are in all
     size: u64,
-    // whether a write failed, and one byte for each that did
-    any_failed: bool,
-    failed: GhostBytes,
-    fault: Option<SinkFault>,
+    failed: FailedWrites,
+    ghost are_lent: { map (λ s. s.now) samples.items ≡ P.samples },
     ghost in_fronts: { sum fronts.items ≡ kept },
     ghost in_around: { kept ≤ length around.items },
     ghost in_pages: { length fronts.items ≤ length samples.items },
@@ -51,8 +65,6 @@ pub struct PagesSink<'a> {
     ghost sized: { size ≡ length (spliced around.items fronts.items
         (map (λ s. s.now) samples.items)) + count },
     ghost short: { size < 2 ^ 63 },
-    ghost none_failed: { any_failed ≡ false → length failed ≡ 0 },
-    ghost some_failed: { any_failed ≡ true → 0 < length failed },
 }
 
 // Adds a front to a list. Its only error leaves the list as it was.
@@ -89,25 +101,24 @@ impl Stretch {
     }
 }
 
-impl<'a> PagesSink<'a> {
+impl<'a, P: LentSamples> PagesSink<'a, P> {
     ghost use Rattle.tiff_base.specs.SourceAndSink.{Appends, Overwrites};
     ghost use Rattle.tiff_ffi.specs.PagesSink.{IsStored, failed_writes, next_samples, page_samples, pages_contents};
 
     /// An empty sink for pages with these samples. It allocates nothing.
-    pub fn new(alloc: Global, samples: Vec<&'a [u8]>) -> PagesSink<'a>
-        ensures contents { pages_contents result ≡ [] }
-        ensures samples { page_samples result ≡ map (λ s. s.now) samples.entry.items }
+    pub fn new(alloc: Global, samples: Vec<&'a [u8]>) -> Self
+        requires { map (λ s. s.now) samples.items ≡ P.samples }
+        ensures { pages_contents result ≡ [] }
     {
         PagesSink {
             samples,
+            lent: PhantomData,
             around: Vec::new(alloc),
             fronts: Vec::new(alloc),
             kept: 0,
             count: 0,
             size: 0,
-            any_failed: false,
-            failed: GhostBytes::new(),
-            fault: None,
+            failed: FailedWrites::none(),
         }
     }
 
@@ -116,35 +127,30 @@ impl<'a> PagesSink<'a> {
         ensures none { result ≡ false → failed_writes self.now ≡ 0 }
         ensures some { result ≡ true → 0 < failed_writes self.now }
     {
-        self.any_failed
+        self.failed.any()
     }
 
     /// The frame of the file. `None` if memory is out.
-    pub fn into_frame(self) -> Option<PagesFrame<'a>>
-        ensures { IfSome result (λ f. let samples = map (λ s. s.now) f.samples.items in
-            (pages_contents self.entry ≡ spliced f.around.items f.fronts.items samples)
-            × (length f.fronts.items ≤ length samples)) }
+    pub fn into_frame(self) -> Option<PagesFrame>
+        ensures { IfSome result (λ f.
+            (pages_contents self.entry ≡ spliced f.around.items f.fronts.items P.samples)
+            × (length f.fronts.items ≤ length P.samples)) }
     {
         let mut sink = self;
         if sink.store_counted().is_err() {
             return None;
         }
         let PagesSink {
-            samples,
+            samples: _,
+            lent: _,
             around,
             fronts,
             kept: _,
             count: _,
             size: _,
-            any_failed: _,
             failed: _,
-            fault: _,
         } = sink;
-        Some(PagesFrame {
-            around,
-            fronts,
-            samples,
-        })
+        Some(PagesFrame { around, fronts })
     }
 
     // The samples of the page of this number; none if there is no such page.
@@ -362,25 +368,9 @@ impl<'a> PagesSink<'a> {
         self.put_in(stretch, at, bytes);
         Ok(bytes.len())
     }
-
-    // Keeps the error of a write, if it failed, and counts it. Returns the answer of the write.
-    fn noted(&mut self, answer: Result<usize, SinkFault>) -> Result<usize, SinkFault>
-        ensures same { result ≡ answer }
-        ensures contents { pages_contents self.new ≡ pages_contents self.old }
-        ensures ok { OnOk answer ((self.new.failed ≡ self.old.failed) × (self.new.fault ≡ None)) }
-        ensures err { IfErr answer (λ e. (failed_writes self.new ≡ failed_writes self.old + 1)
-            × (self.new.fault ≡ Some e)) }
-    {
-        self.fault = answer.err();
-        if self.fault.is_some() {
-            self.failed.push(0);
-            self.any_failed = true;
-        }
-        answer
-    }
 }
 
-impl Sink for PagesSink<'_> {
+impl<P: LentSamples> Sink for PagesSink<'_, P> {
     ghost use Rattle.std.proofs.Common.{arith, length-append};
     ghost use Rattle.std.proofs.lemmas.List.{length-take-le};
     ghost use Rattle.tiff_ffi.specs.PagesSink.{failed_writes, next_samples, page_samples, pages_contents};
@@ -389,7 +379,7 @@ impl Sink for PagesSink<'_> {
 
     ghost failures = { failed_writes };
 
-    ghost fault = { λ s. s.fault };
+    ghost fault = { λ s. s.failed.last };
 
     ghost short = { λ s. Prim.omega (
       arith,
@@ -406,11 +396,11 @@ impl Sink for PagesSink<'_> {
 
     fn append(&mut self, bytes: &[u8]) -> Result<usize, SinkFault> {
         let answer = self.take_next(bytes);
-        self.noted(answer)
+        self.failed.note(answer)
     }
 
     fn overwrite(&mut self, at: u64, bytes: &[u8]) -> Result<usize, SinkFault> {
         let answer = self.change(at, bytes);
-        self.noted(answer)
+        self.failed.note(answer)
     }
 }

@@ -1,5 +1,4 @@
-use Rattle.std.proofs.Common.{rules, ◌≡◌, ℕ, ◌≤◌, List, Bor, length, map, ap, sym, ◌∙◌, subst}
-use Rattle.std.proofs.lemmas.List.{length-map}
+use Rattle.std.proofs.Common.{rules, ◌≡◌, ◌≤◌, ℕ, List, length}
 use Rattle.tiff_ffi.specs.Jobs.{RanJobs}
 use Rattle.tiff_ffi.specs.Pages.{refused_page}
 use Rattle.tiff_ffi.specs.PagesSink.{pages_contents}
@@ -15,15 +14,11 @@ returns g c =
     let refused = c.refused_of-refused.result in
     let around : List ℕ = c.in_ok-frame.frame.around.items in
     let fronts : List ℕ = c.in_ok-frame.frame.fronts.items in
-    let lent : List (List ℕ) = map (λ (s : Bor (List ℕ)). s.now) c.in_ok-frame.frame.samples.items in
-    let samples : List (List ℕ) = map (λ (s : Bor (List ℕ)). s.now) c.args.samples.now in
-    let same : lent ≡ samples = search rules in
-    let kept : contents ≡ spliced around fronts lent = search rules in
-    let few : length fronts ≤ length lent = search rules in
+    let samples : List (List ℕ) = g.P.LentSamples.samples in
+    let kept : contents ≡ spliced around fronts samples = search rules in
+    let few : length fronts ≤ length samples = search rules in
     let ran : RanJobs kind jobs.chain.items contents refused.0 refused.1 = search rules in
     let is : c.refused_page.result
     ≡ refused_page jobs.numbers.items jobs.chain.items refused.0 refused.1 =
-    search rules in (
-      subst (λ n. length fronts ≤ n) (ap (λ (l : List (List ℕ)). length l) same ∙ length-map c.args.samples.now (λ s. s.now)) few,
-      chain_framed kind jobs c.requires contents refused.0 refused.1 c.refused_page.result ran is around fronts samples (kept ∙ ap (spliced around fronts) same),
-    )
+    search rules in
+    (few, chain_framed kind jobs c.requires.alone contents refused.0 refused.1 c.refused_page.result ran is around fronts samples kept)

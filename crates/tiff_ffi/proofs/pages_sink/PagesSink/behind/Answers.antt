@@ -4,7 +4,7 @@ use Rattle.tiff_ffi.proofs.Stretches.{behind_len, behind_is}
 use Rattle.tiff_ffi.proofs.pages_sink.PagesSink.behind.Goals as goal
 
 pub overflow_sub-result : goal.overflow_sub-result
-overflow_sub-result c =
+overflow_sub-result g c =
     let s = c.args.self.now in
     let b =
     behind_len s.around.items s.fronts.items (page_samples s) s.kept s.in_fronts s.in_around in
@@ -13,7 +13,7 @@ overflow_sub-result c =
     omega (arith, b, size, l)
 
 pub returns-clause-is : goal.returns-clause-is
-returns-clause-is c =
+returns-clause-is g c =
     let s = c.args.self.now in
     let b =
     behind_len s.around.items s.fronts.items (page_samples s) s.kept s.in_fronts s.in_around in
@@ -24,7 +24,7 @@ returns-clause-is c =
     (omega (arith, l, all)) (omega (arith, b, size, l, all))
 
 pub returns-clause-end : goal.returns-clause-end
-returns-clause-end c =
+returns-clause-end g c =
     let s = c.args.self.now in
     let b =
     behind_len s.around.items s.fronts.items (page_samples s) s.kept s.in_fronts s.in_around in

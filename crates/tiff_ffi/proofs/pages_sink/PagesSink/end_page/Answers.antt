@@ -1,11 +1,23 @@
-use Rattle.std.proofs.Common.{◌≡◌, ◌-◌, [], ◌∷◌, ◌++◌, length, ap, ◌∙◌, arith}
+use Rattle.std.proofs.Common.{◌≡◌, ◌-◌, [], ◌∷◌, ◌++◌, length, sum, ap, ◌∙◌, arith}
+use Rattle.std.proofs.lemmas.List.Sums.{sum_by-append}
 use Rattle.tiff_ffi.specs.Spliced.{spliced}
 use Rattle.tiff_ffi.specs.PagesSink.{page_samples}
 use Rattle.tiff_ffi.proofs.Stored.{all_counted, is_page, length_ended}
 use Rattle.tiff_ffi.proofs.pages_sink.PagesSink.end_page.Goals as goal
 
+pub invariant_of-self-2-clause-in_fronts : goal.invariant_of-self-2-clause-in_fronts
+invariant_of-self-2-clause-in_fronts g c =
+    let s = c.args.self.now in
+    let len = c.len-all.ensures in
+    let kept = s.in_fronts in
+    let around = s.in_around in
+    let ok = s.around.ok in
+    ap sum c.in_ok-push_front.ensures.ok
+    ∙ sum_by-append (λ n. n) s.fronts.items ((c.len-all.result - s.kept) ∷ [])
+    ∙ omega (arith, len, kept, around, ok)
+
 pub invariant_of-self-2-clause-sized : goal.invariant_of-self-2-clause-sized
-invariant_of-self-2-clause-sized c =
+invariant_of-self-2-clause-sized g c =
     let s = c.args.self.now in
     let all = c.requires.all in
     let some = c.requires.some in
@@ -24,7 +36,7 @@ invariant_of-self-2-clause-sized c =
     omega (arith, more, all, size)
 
 pub returns-clause-ok : goal.returns-clause-ok
-returns-clause-ok c =
+returns-clause-ok g c =
     let s = c.args.self.now in
     let all = c.requires.all in
     let some = c.requires.some in

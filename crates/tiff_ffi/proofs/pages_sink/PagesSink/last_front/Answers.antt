@@ -6,7 +6,7 @@ use Rattle.tiff_ffi.proofs.Stretches.{front_end, front_is}
 use Rattle.tiff_ffi.proofs.pages_sink.PagesSink.last_front.Goals as goal
 
 pub overflow_sub-result : goal.overflow_sub-result
-overflow_sub-result c =
+overflow_sub-result g c =
     let s = c.args.self.now in
     let page : ℕ = c.len-pages.result - 1 in
     let last : page + 1 ≡ length s.fronts.items =
@@ -27,7 +27,7 @@ overflow_sub-result c =
     omega (arith, end, samples, behind, kept, size)
 
 pub returns : goal.returns
-returns c =
+returns g c =
     let s = c.args.self.now in
     let page : ℕ = c.len-pages.result - 1 in
     let last : page + 1 ≡ length s.fronts.items =

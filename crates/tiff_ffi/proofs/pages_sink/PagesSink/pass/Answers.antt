@@ -3,7 +3,7 @@ use Rattle.tiff_ffi.proofs.Stored.{counted}
 use Rattle.tiff_ffi.proofs.pages_sink.PagesSink.pass.Goals as goal
 
 pub returns-clause-ok : goal.returns-clause-ok
-returns-clause-ok c =
+returns-clause-ok g c =
     let s = c.args.self.now in
     counted s.around.items s.fronts.items (page_samples s) s.kept s.in_fronts s.in_around
     (next_samples s) s.count c.args.n

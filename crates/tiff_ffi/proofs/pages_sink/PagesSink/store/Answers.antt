@@ -4,7 +4,7 @@ use Rattle.tiff_ffi.proofs.Stored.{length_more, stored}
 use Rattle.tiff_ffi.proofs.pages_sink.PagesSink.store.Goals as goal
 
 pub invariant_of-self-2-clause-sized : goal.invariant_of-self-2-clause-sized
-invariant_of-self-2-clause-sized c =
+invariant_of-self-2-clause-sized g c =
     let s = c.args.self.now in
     let more =
     length_more s.around.items s.fronts.items (page_samples s) s.kept s.in_fronts s.in_around
@@ -13,7 +13,7 @@ invariant_of-self-2-clause-sized c =
     omega (arith, more, size)
 
 pub returns-clause-ok : goal.returns-clause-ok
-returns-clause-ok c =
+returns-clause-ok g c =
     let s = c.args.self.now in
     stored s.around.items s.fronts.items (page_samples s) s.kept s.in_fronts s.in_around
     c.args.bytes.now c.grow.new.items.items (next_samples s) s.count

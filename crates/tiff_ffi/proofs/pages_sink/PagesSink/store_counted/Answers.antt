@@ -5,7 +5,7 @@ use Rattle.tiff_ffi.proofs.Stored.{length_more, counted_stored}
 use Rattle.tiff_ffi.proofs.pages_sink.PagesSink.store_counted.Goals as goal
 
 pub invariant_of-self-2-clause-sized : goal.invariant_of-self-2-clause-sized
-invariant_of-self-2-clause-sized c =
+invariant_of-self-2-clause-sized g c =
     let s = c.args.self.now in
     let is : c.grow.new.items.items ≡ s.around.items ++ take s.count (next_samples s) =
     c.in_ok-grow.ensures.ok ∙ ap (λ l. s.around.items ++ take s.count l) c.next-next.ensures in
@@ -17,7 +17,7 @@ invariant_of-self-2-clause-sized c =
     omega (arith, more, size, n)
 
 pub returns-clause-contents : goal.returns-clause-contents
-returns-clause-contents c =
+returns-clause-contents g c =
     let s = c.args.self.now in
     let is : c.grow.new.items.items ≡ s.around.items ++ take s.count (next_samples s) =
     c.in_ok-grow.ensures.ok ∙ ap (λ l. s.around.items ++ take s.count l) c.next-next.ensures in
