@@ -88,7 +88,7 @@ enum {
     TIFF_LIMITS_EXCEEDED = 1, /* decoder limits exceeded */
     TIFF_INT_SIZE_ERROR = 2, /* platform or format size limits exceeded */
     TIFF_OUT_OF_MEMORY = 3, /* out of memory */
-    TIFF_LATER_FAULT = 4, /* a fault that has no number yet; no call returns it */
+    TIFF_LATER_FAULT = 4, /* an error that has no number yet; no call returns it */
     TIFF_BYTES_WANTED = 5, /* bytes of the file are wanted; only calls on windows return it */
     /* the bytes */
     TIFF_UNEXPECTED_EOF = 10, /* unexpected end of file */
@@ -109,7 +109,7 @@ enum {
     TIFF_UNKNOWN_PLANAR_CONFIGURATION = 29, /* unknown planar configuration */
     TIFF_INVALID_TYPE_FOR_TAG = 30, /* tag has invalid type */
     TIFF_INVALID_COUNT_FOR_TAG = 31, /* a tag with an incorrect number of elements */
-    TIFF_STRIP_TILE_TAG_CONFLICT = 32, /* strips and tiles are mixed, or neither is told */
+    TIFF_STRIP_TILE_TAG_CONFLICT = 32, /* strips and tiles are mixed, or there are neither */
     TIFF_CYCLE_IN_OFFSETS = 33, /* file contained a cycle in the list of IFDs */
     TIFF_SAMPLES_PER_PIXEL_IS_ZERO = 34, /* samples per pixel is zero */
     TIFF_COMPRESSED_DATA_CORRUPT = 35, /* compressed data is corrupt */

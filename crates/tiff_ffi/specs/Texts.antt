@@ -12,7 +12,7 @@ call_text n =
     else if n == 1 then codes "decoder limits exceeded"
     else if n == 2 then codes "platform or format size limits exceeded"
     else if n == 3 then codes "out of memory"
-    else if n == 4 then codes "a fault that has no number yet"
+    else if n == 4 then codes "an error that has no number yet"
     else if n == 5 then codes "bytes of the file are wanted"
     else no_status
 
@@ -41,7 +41,7 @@ form_text n =
     else if n == 29 then codes "unknown planar configuration"
     else if n == 30 then codes "tag has invalid type"
     else if n == 31 then codes "a tag with an incorrect number of elements"
-    else if n == 32 then codes "strips and tiles are mixed, or neither is told"
+    else if n == 32 then codes "strips and tiles are mixed, or there are neither"
     else if n == 33 then codes "file contained a cycle in the list of IFDs"
     else if n == 34 then codes "samples per pixel is zero"
     else if n == 35 then codes "compressed data is corrupt"

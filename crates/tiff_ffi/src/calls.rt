@@ -1,7 +1,7 @@
 //! Calls of a decoder on a page of a file that lies in a slice. No read of a slice fails, so an
 //! error comes from the file or the caller, or memory is out.
 
-ghost use Rattle.std.specs.Prelude.{◌≡◌, ◌^◌, ◌<◌, length, option_map, IfOk, Ok, OnOk};
+ghost use Rattle.std.specs.Prelude.{◌≡◌, ◌^◌, ◌<◌, length, option_map, Ok, OnOk};
 ghost use Rattle.tiff_base.specs.Answers.{Answers, AnswersWithoutMemory, AnswersWithoutSource, Gives};
 ghost use Rattle.tiff_base.specs.Color.{num_samples};
 ghost use Rattle.tiff_base.specs.declared.error.TiffError.TheVariants.{FormatError};

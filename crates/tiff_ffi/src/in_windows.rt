@@ -1,6 +1,6 @@
 //! Calls on a file of which a caller has windows, so that most of its bytes are never asked for.
 
-ghost use Rattle.std.specs.Prelude.{◌≡◌, ◌⊎◌, ◌<◌, ◌≤◌, ◌^◌, ℕ, List, drop, length, take, None, Some, IfOk, IfSome, MatchResult, OnErr};
+ghost use Rattle.std.specs.Prelude.{◌≡◌, ◌⊎◌, ◌<◌, ◌^◌, ℕ, List, length, None, Some, IfOk, IfSome, MatchResult, OnErr};
 ghost use Rattle.std.specs.FinMap.{get};
 ghost use Rattle.tiff_base.specs.Answers.{AnswersWithoutMemory, AnswersWithoutSource, Gives, IsKept};
 ghost use Rattle.tiff_base.specs.Windows.{AreWindowsOf, IsWanted};

@@ -1,7 +1,6 @@
 //! A file of several pages, whose parameters, tags and samples C passes.
 
 ghost use Rattle.std.specs.Prelude.{◌≡◌, ◌++◌, ◌+◌, [], length, map, slice_get, MatchResult};
-ghost use Rattle.tiff_encode.specs.FileBytes.{offset_len};
 ghost use Rattle.tiff_ffi.specs.Pages as spec;
 ghost use Rattle.tiff_ffi.specs.Pages.{AnswersPages, AnswersVersion, IsOut, IsOutAt, IsOutIn, Makes, TellsPages, appended, behind, each, job_view, jobs_of_pages, pages_view, settings_steps, step_view};
 ghost use Rattle.tiff_ffi.specs.Parents.{AreCounts};

@@ -27,8 +27,8 @@ use tiff_base::directory::{Directory, Entry};
 use tiff_base::error::{TiffError, TiffFormatError, TiffResult};
 use tiff_base::io::{IoKind, MemorySink};
 use tiff_base::tags::{ByteOrder, FileKind, Tag};
+use tiff_encode::encoder::TiffKind;
 use tiff_encode::encoder::script::{Job, JobReply};
-use tiff_encode::encoder::{TiffKind, TiffKindBig, TiffKindStandard};
 use tiff_ifd::decode::{read_directory, read_link_at};
 use tiff_ifd::walk::IfdChainWalk;
 

@@ -3,7 +3,6 @@
 
 ghost use Rattle.std.specs.Prelude.{◌≡◌, length, OnErr, OnOk};
 ghost use Rattle.tiff_base.specs.Answers.{AnswersWithoutSource};
-ghost use Rattle.tiff_base.specs.Memory.{slice_bytes};
 ghost use Rattle.tiff_rewrite.specs.PlannedRewrite.{PlannedRewritten, planned_fault, planned_place};
 ghost use Rattle.tiff_ffi.specs.Rewrite as spec;
 

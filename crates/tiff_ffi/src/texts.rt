@@ -16,7 +16,7 @@ fn call_text(number: u32) -> &'static str
         1 => "decoder limits exceeded",
         2 => "platform or format size limits exceeded",
         3 => "out of memory",
-        4 => "a fault that has no number yet",
+        4 => "an error that has no number yet",
         5 => "bytes of the file are wanted",
         _ => NO_STATUS,
     }
@@ -53,7 +53,7 @@ fn form_text(number: u32) -> &'static str
         29 => "unknown planar configuration",
         30 => "tag has invalid type",
         31 => "a tag with an incorrect number of elements",
-        32 => "strips and tiles are mixed, or neither is told",
+        32 => "strips and tiles are mixed, or there are neither",
         33 => "file contained a cycle in the list of IFDs",
         34 => "samples per pixel is zero",
         35 => "compressed data is corrupt",

@@ -1,10 +1,9 @@
 //! A file of one image, whose parameters and samples C passes.
 
-ghost use Rattle.std.specs.Prelude.{◌≡◌, ◌*◌, ◌^◌, ◌<◌, ℕ, List, length, map, slice_get, MatchResult, MatchOption, IfOk, IfSome, Ok, OnOk, replicate, true};
+ghost use Rattle.std.specs.Prelude.{◌≡◌, ◌*◌, ◌^◌, ◌<◌, ℕ, List, length, map, slice_get, MatchResult, IfOk, IfSome, Ok, OnOk, replicate, true};
 ghost use Rattle.tiff_encode.specs.declared.encoder.settings.Compression.TheVariants.{Uncompressed};
 ghost use Rattle.tiff_base.specs.Types.{type_size};
 ghost use Rattle.tiff_value.specs.ColorType.{columns_of, sample_number};
-ghost use Rattle.tiff_value.specs.ColorTypes.{color_types};
 ghost use Rattle.tiff_decode.specs.NextState.{view_of_result};
 ghost use Rattle.tiff_ffi.specs.Writer as writer;
 ghost use Rattle.tiff_ffi.specs.Frame.{IsAround, file_of};
