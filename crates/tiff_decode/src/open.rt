@@ -1,7 +1,7 @@
 //! Opens a file by its header alone.
 
-ghost use Rattle.std.specs.Prelude.{◌≡◌, [], ◌∷◌, IfOk, IfErr, OnOk, None, Ok, MatchResult};
-ghost use Rattle.tiff_base.specs.Answers.{Answers, AnswersBut, ReadsOnly, FailsFrom};
+ghost use Rattle.std.specs.Prelude.{◌≡◌, [], ◌∷◌, IfOk, None, Ok};
+ghost use Rattle.tiff_base.specs.Answers.{AnswersBut, ReadsOnly, FailsFrom};
 ghost use Rattle.tiff_ifd.specs.Stretches.{HeaderReadable};
 ghost use Rattle.tiff_page.specs.PageView.{page as page_record};
 ghost use Rattle.tiff_decode.specs.Machine.{Decoding};

@@ -22,7 +22,7 @@ use Rattle.tiff_page.proofs.Filling.{same_height}
 use Rattle.tiff_page.proofs.Planes.{layout_gives, Stores, color_stores, shown_stored}
 use Rattle.tiff_page.proofs.PositionLaws.{row_in}
 use Rattle.tiff_laws.specs.Costs as spec
-use Rattle.tiff_laws.specs.Costs.{AreAllReadable, most_of_chunk, most_of_image, stretch_bytes}
+use Rattle.tiff_laws.specs.Costs.{AreAllReadable, stretch_bytes}
 use Rattle.tiff_laws.proofs.Laid.{planes_laid}
 use Rattle.tiff_laws.proofs.OnTheWay.{bytes_of_both, front_read, rest_read}
 use Rattle.tiff_laws.proofs.Totals.{total, total_le, total_const, total_split, total_listed, rows_left}

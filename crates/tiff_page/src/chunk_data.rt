@@ -7,8 +7,6 @@ ghost use Rattle.tiff_ifd.specs.Unpacking.{PackedReadable, IsLastPart, left_at};
 ghost use Rattle.tiff_page.specs.Methods.{data_by_method, is_packed, method_fault};
 ghost use Rattle.tiff_page.specs.ChunkData.{bytes_left, Takes, Passes};
 ghost use Rattle.tiff_page.specs.Reach.{StoredReadable, Moves};
-ghost use Rattle.tiff_base.specs.declared.tags.ByteOrder.{ByteOrder};
-ghost use Rattle.tiff_page.specs.Page.{PageRecord};
 
 use tiff_base::error::{TiffError, TiffResult};
 use tiff_base::io::{IoKind, Source};

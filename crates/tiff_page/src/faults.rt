@@ -1,7 +1,7 @@
 //! The errors of reading pixels, except for too few data, and those that the decoder finds before it
 //! allocates memory for samples.
 
-ghost use Rattle.std.specs.Prelude.{◌≡◌, ◌<◌, length, OnOk, ◌+◌, ◌-◌, ◌*◌, ◌^◌, min, nat_lt};
+ghost use Rattle.std.specs.Prelude.{◌≡◌, ◌<◌, length, OnOk, ◌+◌, ◌-◌, ◌*◌, ◌^◌, nat_lt};
 ghost use Rattle.tiff_base.specs.Answers.{Gives, AnswersWithoutMemory, ReadsOnly, IsKept};
 ghost use Rattle.tiff_base.specs.declared.error.TiffError.TheVariants as tiff;
 ghost use Rattle.tiff_base.specs.declared.io.IoKind.TheVariants as io;

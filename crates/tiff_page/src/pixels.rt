@@ -11,7 +11,7 @@
 //! data it may ask for all bytes that the byte count of the chunk includes.
 
 ghost use Rattle.std.specs.Int.{div_ceil};
-ghost use Rattle.std.specs.Prelude.{◌≡◌, ℕ, ◌*◌, ◌<◌, ◌≤◌, ◌^◌, Ok, IfOk, [], length, map, replicate, if◌then◌else◌, nat_le};
+ghost use Rattle.std.specs.Prelude.{◌≡◌, ℕ, ◌*◌, ◌<◌, ◌≤◌, ◌^◌, Ok, IfOk, [], length, map};
 ghost use Rattle.tiff_base.specs.Answers.{Answers, AnswersWithoutSource, ReadsOnly, Gives, IsKept};
 ghost use Rattle.tiff_base.specs.Sparing.{AnswersOrNoMemory, IsListFault};
 ghost use Rattle.tiff_page.specs.Buffers as buffers;

@@ -1,5 +1,5 @@
 -- The plan of a directory is that of its page.
-use Rattle.std.proofs.Common.{◌≡◌, ℕ, ◌^◌, ◌<◌, ◌≤◌, Bool, true, false, List, [], ◌∷◌, length, replicate, Option, None, Some, Ok, Err, refl, ap, sym, subst, ◌∙◌}
+use Rattle.std.proofs.Common.{◌≡◌, ℕ, Bool, true, false, List, [], ◌∷◌, length, replicate, Option, None, Some, Ok, Err, refl, ap, sym, subst, ◌∙◌}
 use Rattle.std.specs.FinMap.{get}
 use Rattle.std.specs.List.{slice_get}
 use Rattle.std.specs.Option.{IfSome}
@@ -25,7 +25,7 @@ use Rattle.tiff_ifd.specs.OneNumber.{is_unsigned}
 use Rattle.tiff_ifd.specs.PlainValue.{PlainValue}
 use Rattle.tiff_ifd.specs.TagLookup.{TagLookup, find, find_or, if_found, look_in, ok_or_fault, require}
 use Rattle.tiff_ifd.specs.Unsigned.{field_numbers}
-use Rattle.tiff_page.specs.Checks.{chunks_counted, chunks_in, page_of, some_rows, some_side, strips_in, tiles_in, PassedChecks}
+use Rattle.tiff_page.specs.Checks.{chunks_counted, chunks_in, page_of, some_rows, some_side, strips_in, tiles_in}
 use Rattle.tiff_page.specs.Counts.{planes_of}
 use Rattle.tiff_page.specs.Layout.{first_is_alpha}
 use Rattle.tiff_page.specs.Page.{Chunks, PageRecord}

@@ -1,7 +1,7 @@
 -- A chunk read by the plan of a page is the page's.
-use Rattle.std.proofs.Common.{◌≡◌, ℕ, ◌-◌, ◌^◌, ◌<◌, ◌≤◌, Bool, true, false, List, [], length, replicate, set, Ok, Err, refl, ap, sym, ◌∙◌, ⊎_elim, subst, arith}
-use Rattle.std.specs.Prelude.{Result, slice_index, nat_lt, nat_le, ◌&&◌, if◌then◌else◌}
-use Rattle.std.proofs.lemmas.Bool.{cases_lt, lt-leb}
+use Rattle.std.proofs.Common.{◌≡◌, ℕ, ◌-◌, ◌^◌, ◌<◌, ◌≤◌, true, List, [], length, replicate, Ok, refl, ap, sym, ◌∙◌, ⊎_elim, subst, arith}
+use Rattle.std.specs.Prelude.{Result, slice_index}
+use Rattle.std.proofs.lemmas.Bool.{cases_lt}
 use Rattle.std.proofs.Math.ListN.{get_or-eq_default}
 use Rattle.std.proofs.lemmas.List.{get_or-set_same, length-replicate, length-set}
 use Rattle.std.proofs.lemmas.Grind.{common_steps}
@@ -9,22 +9,19 @@ use Rattle.tiff_base.specs.Answers.{◌>>=◌, Answers}
 use Rattle.tiff_base.specs.Field.{Field}
 use Rattle.tiff_base.specs.SourceAndSink.{SourceRecord}
 use Rattle.tiff_base.specs.declared.error.TiffError.{TiffError}
-use Rattle.tiff_base.specs.declared.tags.ByteOrder.{ByteOrder}
-use Rattle.tiff_base.specs.declared.tags.FileKind.{FileKind}
 use Rattle.tiff_ifd.specs.declared.limits.Limits.{Limits}
-use Rattle.tiff_ifd.specs.OneNumber.{one_number, OneOfNumbers}
+use Rattle.tiff_ifd.specs.OneNumber.{one_number}
 use Rattle.tiff_ifd.proofs.OneNumber.{one_of_numbers}
 use Rattle.tiff_page.specs.Buffers.{image_chunk_buffer_layout}
-use Rattle.tiff_page.specs.ChunkAlone.{with_lists, TellOfChunk, ChunkAlone}
+use Rattle.tiff_page.specs.ChunkAlone.{with_lists, TellOfChunk}
 use Rattle.tiff_page.specs.Counts.{all_chunks}
-use Rattle.tiff_page.specs.Layout.{first_is_alpha}
 use Rattle.tiff_page.specs.EarlyFaults.{chunk_bytes_early}
 use Rattle.tiff_page.specs.Lists.{one_known}
 use Rattle.tiff_page.specs.Reach.{ChunksReadable}
 use Rattle.tiff_page.specs.Page.{PageRecord}
 use Rattle.tiff_page.specs.PixelCalls.{read_chunk_bytes}
 use Rattle.tiff_page.proofs.ChunkAlone.{chunk_alone}
-use Rattle.tiff_pages.specs.Plan.{chunks_planned, extra_of, is_sized, page_of_chunk, page_with, place_planned, planned_early, planned_layout, number_planned, read_planned, HasNumbers, IsPage, IsPageOfChunk, IsPlanOf, PlansMakePages, PlansReadPages}
+use Rattle.tiff_pages.specs.Plan.{chunks_planned, extra_of, is_sized, page_of_chunk, page_with, place_planned, planned_early, planned_layout, number_planned, read_planned, HasNumbers, IsPageOfChunk, IsPlanOf, PlansMakePages, PlansReadPages}
 use Rattle.tiff_pages.specs.declared.plan.PagePlan.{PagePlan}
 
 -- a number of a list, read alone, where a list of which no other number is known has it

@@ -1,10 +1,10 @@
 //! The list of a file's pages.
 
-ghost use Rattle.std.specs.Prelude.{◌≡◌, ◌<◌, ◌≤◌, ◌++◌, ◌∷◌, [], IfErr, IfOk, IfSome, IsSome, MatchResult, None, Ok, OnErr, OnOk, Some, true};
+ghost use Rattle.std.specs.Prelude.{◌≡◌, ◌<◌, [], IfErr, IfOk, IsSome, MatchResult, None, Ok, OnErr, OnOk, Some, true};
 ghost use Rattle.tiff_base.specs.Answers.{Answers, IsCause};
-ghost use Rattle.tiff_decode.specs.Machine.{Decoding, StandsAt, keeps_state};
+ghost use Rattle.tiff_decode.specs.Machine.{StandsAt, keeps_state};
 ghost use Rattle.tiff_decode.specs.Opened.{rewound};
-ghost use Rattle.tiff_decode.specs.Outcome.{chain_of, page_in, seek_to_image};
+ghost use Rattle.tiff_decode.specs.Outcome.{chain_of, seek_to_image};
 ghost use Rattle.tiff_pages.specs.Pages.{HasItsPage, IsOfFile, LeavesPages, OnlyReads, WasOnItsWay, facts_of, facts_told, pages_in, pages_of, state_along, times_to_end};
 
 use tiff_base::color::{ChunkType, ColorType};

@@ -1,10 +1,9 @@
 //! One chunk of a page, by what the page is known to be: at the cost of one chunk, however many the
 //! page has.
 
-ghost use Rattle.std.specs.Prelude.{◌≡◌, ℕ, true, List, Ok, IfSome, ◌<◌, ◌≤◌, ◌^◌, IfOk, OnOk, length};
+ghost use Rattle.std.specs.Prelude.{◌≡◌, ℕ, true, List, Ok, IfSome, ◌<◌, ◌^◌, IfOk, OnOk, length};
 ghost use Rattle.std.specs.FinMap.{get};
 ghost use Rattle.tiff_base.specs.Answers.{Answers, AnswersWithoutMemory, AnswersWithoutSource, ReadsOnly, Gives, IsKept};
-ghost use Rattle.tiff_base.specs.declared.error.TiffError.{TiffError};
 ghost use Rattle.tiff_base.specs.Tags.{tag_number};
 ghost use Rattle.tiff_ifd.specs.OneNumber.{NumberReadable};
 ghost use Rattle.tiff_ifd.specs.TagLookup.{look_in};

@@ -1,7 +1,7 @@
 //! Eleven uses of `tiff`, as a caller writes them.
 #![tactic(auto)]
 
-ghost use Rattle.std.specs.Prelude.{◌≡◌, ◌≤◌, [], length, map, IfErr, IfOk, MatchResult, None, Ok, OnOk};
+ghost use Rattle.std.specs.Prelude.{◌≡◌, ◌≤◌, length, map, IfErr, IfOk, MatchResult, None, Ok, OnOk};
 ghost use Rattle.tiff.specs.Answers.{Answers};
 ghost use Rattle.tiff.specs.Machine.{Follows};
 ghost use Rattle.tiff.specs.Outcome.{decoder_of, read_image_bytes};
@@ -13,7 +13,7 @@ ghost use Rattle.tiff_uses.specs.Chunks.{IsImageOfChunks};
 ghost use Rattle.tiff_uses.specs.Cleared.{cleared_from};
 ghost use Rattle.tiff_decode.specs.NextState.{view_of_result};
 ghost use Rattle.tiff_uses.specs.GrayFile.{AnswersGray};
-ghost use Rattle.tiff_uses.specs.GeoKeys.{geo_key, key_value, value_in};
+ghost use Rattle.tiff_uses.specs.GeoKeys.{geo_key, key_value};
 ghost use Rattle.tiff_uses.specs.Pages as pages;
 ghost use Rattle.tiff_uses.specs.Pages.{FileAnswers, first_image, page_chunk};
 ghost use Rattle.tiff_uses.specs.Listed.{IsPageOf, IsFileOf};

@@ -1,6 +1,6 @@
 -- Long files, by parts of them.
 use denote.Ref.{Bor}
-use Rattle.std.proofs.Common.{◌≡◌, ◌⊎◌, inl, inr, ℕ, zero, suc, ◌+◌, ◌<◌, Bool, true, false, cond, List, [], ◌∷◌, ◌++◌, length, get_or, map, take, All, Option, None, Some, Result, Ok, Err, MatchResult, refl, sym, ap, ◌∙◌, arith, subst}
+use Rattle.std.proofs.Common.{◌≡◌, inl, inr, ℕ, zero, suc, ◌+◌, ◌<◌, Bool, true, false, cond, List, [], ◌∷◌, ◌++◌, length, get_or, map, take, All, Option, Result, Ok, Err, MatchResult, refl, sym, ap, ◌∙◌, arith, subst}
 use Rattle.std.proofs.lemmas.List.{map-append, take_more}
 use Rattle.std.proofs.Math.Seq.{take-length}
 use Rattle.std.specs.Prelude.{is_err, is_ok}
@@ -31,7 +31,7 @@ use Rattle.tiffpage_lib.specs.declared.failure.Failure.TheVariants as failure
 use Rattle.tiffpage_lib.specs.Check.{checks_under, told_under}
 use Rattle.tiffpage_lib.specs.Directories.{told_of_directories}
 use Rattle.tiffpage_lib.specs.Files.{failure_of}
-use Rattle.tiffpage_lib.specs.Parts.{Gave, Piece, ReadFails, Saw, SeesBy, window, windows_of}
+use Rattle.tiffpage_lib.specs.Parts.{Gave, Piece, Saw, SeesBy, window}
 
 -- An answer of the file that the windows are of is one of this file, if they are of it.
 pub asked : {A : Type 0} (P : List ℕ → A → Type 0) (file : List ℕ) (seen : Windows) (r : Result A Stretch)

@@ -1,5 +1,5 @@
 -- Steps of a command, one after another.
-use Rattle.std.proofs.Common.{◌≡◌, List, ℕ, Ok, Err, Result, refl, sym, ap, subst}
+use Rattle.std.proofs.Common.{◌≡◌, Ok, Err, Result, refl, ap}
 use Rattle.std.specs.Result.{IsErrAnd, result_and, result_map_both}
 use Rattle.tiff_base.specs.declared.error.TiffError.{TiffError}
 use Rattle.tiffpage_lib.specs.declared.failure.Failure.{Failure}

@@ -1,6 +1,5 @@
 //! Long files: their directories, and the check of their pages, by parts of them.
 
-ghost use Rattle.std.specs.Prelude.{◌≡◌, ℕ, List, MatchResult};
 ghost use Rattle.tiff.specs.Answers.{AnswersWithoutSource};
 ghost use Rattle.tiff_pages.specs.Check.{checks_in};
 ghost use Rattle.tiff_pages.specs.OfFile.{check_of, list_of, tree_of};
@@ -21,7 +20,7 @@ use tiff::{TiffError, TiffResult};
 use tiff_base::windows::{OrderedWindows, SeenFile, Stretch};
 use tiff_pages::check::{FileCheck, PageCheck};
 use tiff_pages::lines::{Lines, lines_of_checks, lines_of_directories};
-use tiff_pages::pages::{PageItem, PageList};
+use tiff_pages::pages::PageList;
 use tiff_pages::seen::{check_seen, directories_seen, pages_seen};
 use tiff_pages::tree::DirectoryList;
 

@@ -1,7 +1,7 @@
 //! Parts of files, read until a question about the file has its answer: so a file is read of which
 //! most bytes aren't needed.
 
-ghost use Rattle.std.specs.Prelude.{◌≡◌, ◌⊎◌, ◌+◌, ◌-◌, ◌<◌, ◌≤◌, ℕ, List, Result, [], ◌∷◌, IfErr, IfOk, MatchResult, OnOk, OnErr, Ok, Err, length, map, get_or, slice_index_or};
+ghost use Rattle.std.specs.Prelude.{◌≡◌, ◌+◌, ◌-◌, ◌<◌, ◌≤◌, ℕ, List, Result, [], IfErr, IfOk, MatchResult, OnOk, Ok, Err, length, map, slice_index_or};
 ghost use Rattle.std.specs.List.{insert};
 ghost use Rattle.tiff_base.specs.Windows.{AreWindowsOf, IsWanted, file_of};
 ghost use Rattle.tiff_base.specs.declared.error.TiffError.{TiffError};

@@ -1,5 +1,4 @@
-use Rattle.std.proofs.Common.{ap, ◌∙◌}
-use Rattle.tiff_decode.specs.Machine.{Decoding}
+use Rattle.std.proofs.Common.{◌∙◌}
 use Rattle.tiff_pages.proofs.Checked.{fault_shown, image_shown}
 use Rattle.tiff_pages.proofs.check.check_shown.Goals as goal
 use Rattle.tiff_pages.proofs.check.check_shown.Goals.{in-Ok+in_ok-image-in-Ok, in-Err}

@@ -1,4 +1,3 @@
-use Rattle.std.proofs.Common.{◌≡◌}
 use Rattle.tiff_base.specs.Answers.{AnswersWithoutSource}
 use Rattle.tiff_pages.specs.Check.{checks_in}
 use Rattle.tiffpage_lib.specs.Check.{checks_under}

@@ -1,12 +1,10 @@
-use Rattle.std.proofs.Common.{◌≡◌, ◌++◌, ◌∷◌, [], List, Ok, Err, Result, refl, ap, inl, arith}
+use Rattle.std.proofs.Common.{Ok, Err, Result, refl, inl, arith}
 use Rattle.tiff_base.specs.declared.error.TiffError.{TiffError}
 use Rattle.tiff_base.specs.declared.error.TiffError.TheVariants.{OutOfMemory}
 use Rattle.tiff_base.specs.Answers.{AnswersWithoutSource}
 use Rattle.tiff_pages.specs.declared.check.PageCheck.{PageCheck}
-use Rattle.tiff_pages.specs.Check.{checks_in}
 use Rattle.tiff_pages.specs.OfFile.{check_of, list_of}
 use Rattle.tiff_pages.specs.Pages.{pages_in}
-use Rattle.tiffpage_lib.specs.Check.{checks_under}
 use Rattle.tiffpage_lib.proofs.InParts.{all_so_far, check_refused, one_so_far, pages_refused, pushed, saw_answer, saw_both, saw_if, saw_nothing, sees_refused}
 use Rattle.tiffpage_lib.proofs.in_parts.checks_in_parts.Goals as goal
 

@@ -1,4 +1,3 @@
-use Rattle.std.proofs.Common.{◌≡◌}
 use Rattle.tiff_base.specs.Answers.{AnswersWithoutSource}
 use Rattle.tiff_pages.specs.Tree.{directories_in}
 use Rattle.tiff_pages.specs.OfFile.{tree_of}

@@ -1,4 +1,4 @@
-use Rattle.std.proofs.Common.{◌≡◌, List, ℕ, string_bytes, ap, subst, arith}
+use Rattle.std.proofs.Common.{◌≡◌, string_bytes, ap, subst, arith}
 use Rattle.std.specs.Str.{IsUtf8}
 use Rattle.std.proofs.lemmas.Grind.{common_steps}
 use Rattle.std.proofs.lemmas.Str.{IsUtf8-string_bytes, utf8_valid_len_le}

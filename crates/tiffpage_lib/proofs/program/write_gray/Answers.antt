@@ -1,5 +1,3 @@
-use Rattle.std.proofs.Common.{refl}
-use Rattle.std.specs.Prelude.{Ok, Err}
 use Rattle.tiffpage_lib.proofs.Steps.{fails, goes, makes, stops}
 use Rattle.tiffpage_lib.proofs.program.write_gray.Goals as goal
 
