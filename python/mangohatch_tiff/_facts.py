@@ -258,7 +258,7 @@ class PageFacts:
         chunky = self.planarconfig == PLANARCONFIG.CONTIG and self.samplesperpixel > 1
         return (*sides, self.samplesperpixel) if chunky else sides
 
-    @property
+    @cached_property
     def chunk_count(self) -> int:
         """How many strips or tiles the page has, in all planes."""
         if self._facts.count_status:

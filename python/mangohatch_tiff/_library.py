@@ -25,6 +25,7 @@ from enum import IntEnum
 from pathlib import Path
 from typing import TYPE_CHECKING, Any, TypeVar, Union
 
+from ._mapped import Mapped
 from ._windows import BYTES_WANTED, Seen, Stretch, Windows
 
 if TYPE_CHECKING:
@@ -734,14 +735,33 @@ class locked:
     __slots__ = ("owner", "view")
 
     def __init__(self, owner: ReadableBuffer) -> None:
-        self.owner, self.view = owner, _PyBuffer()
+        self.owner = owner
 
     def __enter__(self) -> tuple[int, int]:
-        _GET_BUFFER(self.owner, byref(self.view), _CONTIGUOUS)
-        return self.view.buf or ctypes.addressof(_ANY_BYTE), self.view.len
+        # A view locks a file as well, and takes a tenth of the time. It doesn't tell the address.
+        self.view = memoryview(self.owner)
+        if isinstance(self.owner, Mapped):
+            self.owner.address = self.owner.address or _address(self.owner)
+            return self.owner.address, self.view.nbytes
+        return _address(self.owner), self.view.nbytes
 
     def __exit__(self, kind: object, error: object, trace: object) -> None:
-        _RELEASE_BUFFER(byref(self.view))
+        self.view.release()
+
+
+def _address(owner: ReadableBuffer) -> int:
+    """Returns where an object's own bytes begin."""
+    view = _PyBuffer()
+    _GET_BUFFER(owner, byref(view), _CONTIGUOUS)
+    try:
+        return view.buf or ctypes.addressof(_ANY_BYTE)
+    finally:
+        _RELEASE_BUFFER(byref(view))
+
+
+def address_of(array: Any) -> int:
+    """Returns where the bytes of an array begin, which can be written and lie without gaps."""
+    return ctypes.addressof(c_ubyte.from_buffer(array) if array.nbytes else _ANY_BYTE)
 
 
 def length_of(file: File) -> int:
@@ -912,7 +932,7 @@ def tag_floats(file: ReadableBuffer, page: int, number: int) -> tuple[float, ...
 def read_samples(call: Any, file: ReadableBuffer, place: tuple[int, ...], buffer: Any) -> None:
     """Reads samples of a page into an array; `place` is the page and what the call takes after."""
     with locked(file) as (address, length):
-        check(call(address, length, *place, buffer.ctypes.data, buffer.nbytes))
+        check(call(address, length, *place, address_of(buffer), buffer.nbytes))
 
 
 def tag_text(file: ReadableBuffer, page: int, number: int) -> str:

@@ -9,9 +9,11 @@ class Mapped(mmap.mmap):
     """A file mapped into memory, with the path by which it was opened, if it was.
 
     `identity` is the device and the number of the file, by which it is known if the path has
-    another one later.
+    another one later. `address` is where the file is mapped: it is to be read, so it can't be
+    resized, and stays there until it is closed. 0 is an address that isn't known yet.
     """
 
+    address = 0
     path: str | None = None
     identity: tuple[int, int] = (0, 0)
 

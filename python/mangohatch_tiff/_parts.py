@@ -63,13 +63,15 @@ class Grid:
         plane, line = divmod(line, self.down)
         return plane, line * self.chunk_height, column * self.chunk_width
 
+    def sides(self, chunk: int) -> tuple[int, int]:
+        """Returns how many rows and columns of the image a chunk has."""
+        line, column = divmod(chunk, self.across)
+        row, column = line % self.down * self.chunk_height, column * self.chunk_width
+        return min(self.chunk_height, self.height - row), min(self.chunk_width, self.width - column)
+
     def rows_from(self, row: int) -> int:
         """Returns how many rows of the image the chunks have that begin at a row."""
         return min(self.chunk_height, self.height - row)
-
-    def columns_from(self, column: int) -> int:
-        """Returns how many columns of the image the chunks have that begin at a column."""
-        return min(self.chunk_width, self.width - column)
 
 
 @dataclass(frozen=True)
@@ -152,9 +154,8 @@ class Source:
     def _sized(self, run: Run) -> Iterator[tuple[int, int]]:
         """Yields the number of each chunk of a run, and how many bytes the library reads of it."""
         for chunk in range(run.first, run.first + run.count):
-            _, row, column = self.grid.place(chunk)
-            size = self.form.row_bytes(self.grid.columns_from(column))
-            yield chunk, self.grid.rows_from(row) * size
+            rows, columns = self.grid.sides(chunk)
+            yield chunk, rows * self.form.row_bytes(columns)
 
     def read_whole(self, array: NDArray[Any]) -> None:
         """Reads the image into an array of planes, rows, columns and samples, by one call."""
@@ -170,26 +171,36 @@ class Source:
 
     def chunk(self, chunk: int) -> NDArray[Any]:
         """Reads a chunk, as an array of rows, columns and samples."""
-        _, row, column = self.grid.place(chunk)
-        rows, wide = self.grid.rows_from(row), self.grid.columns_from(column)
-        raw = numpy.empty((rows, self.form.row_bytes(wide)), numpy.uint8)
+        (rows, wide), form = self.grid.sides(chunk), self.form
+        if form.is_direct:
+            part = numpy.empty((rows, wide, form.samples), form.dtype)
+            self._read_chunk(chunk, part)
+            if form.turned:
+                numpy.bitwise_not(part, out=part)
+            return part
+        raw = numpy.empty((rows, form.row_bytes(wide)), numpy.uint8)
+        self._read_chunk(chunk, raw)
+        return form.natural(raw, wide)
+
+    def _read_chunk(self, chunk: int, buffer: NDArray[Any]) -> None:
+        """Reads a chunk into an array of its size."""
         if self.stored:
-            self.stored.read_chunks(self.grid, Run(chunk, 1), raw)
+            self.stored.read_chunks(self.grid, Run(chunk, 1), buffer)
         else:
-            self.planned.read([(chunk, raw.nbytes)], raw)
-        return self.form.natural(raw, wide)
+            self.planned.read(((chunk, buffer.nbytes),), buffer)
 
     def chunks(self, run: Run) -> Iterator[tuple[tuple[int, int, int], NDArray[Any]]]:
         """Reads a run of chunks, and yields the place and the samples of each."""
         grid, form = self.grid, self.form
-        places = [grid.place(chunk) for chunk in range(run.first, run.first + run.count)]
-        sides = [(grid.rows_from(row), grid.columns_from(column)) for _, row, column in places]
+        numbers = range(run.first, run.first + run.count)
+        sides = [grid.sides(chunk) for chunk in numbers]
         raw = numpy.empty(sum(rows * form.row_bytes(wide) for rows, wide in sides), numpy.uint8)
         self.read_chunks(run, raw)
         start = 0
-        for place, (rows, wide) in zip(places, sides):
+        for chunk, (rows, wide) in zip(numbers, sides):
             size = form.row_bytes(wide)
-            yield place, form.natural(raw[start : start + rows * size].reshape(rows, size), wide)
+            part = raw[start : start + rows * size].reshape(rows, size)
+            yield grid.place(chunk), form.natural(part, wide)
             start += rows * size
 
 

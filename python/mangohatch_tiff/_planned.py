@@ -51,6 +51,11 @@ class Planned:
                 raise
             return None
 
+    @cached_property
+    def _given(self) -> Any:
+        """What a call gets for the page: its plan, or without one its number."""
+        return ctypes.pointer(self.plan) if self.plan else self.at
+
     @property
     def certain(self) -> PagePlan:
         """The plan of the page; without one, raises an error."""
@@ -76,7 +81,7 @@ class Planned:
             self._read_by_ranges(self.file, chunks, buffer)
             return
         call = _library.READ_PLANNED_CHUNK if self.plan else _library.READ_CHUNK
-        page, place = self.plan or self.at, buffer.ctypes.data
+        page, place = self._given, _library.address_of(buffer)
         with _library.locked(self.file) as (address, length):
             for chunk, size in chunks:
                 _library.check(call(address, length, page, chunk, place, size))
@@ -86,7 +91,7 @@ class Planned:
         self, file: Windows, chunks: Iterable[tuple[int, int]], buffer: Any
     ) -> None:
         """Reads chunks of a file that isn't in memory; the bytes of each are fetched together."""
-        plan, place = self.certain, buffer.ctypes.data
+        plan, place = self.certain, _library.address_of(buffer)
         for chunk, size in chunks:
             offset, length = self.place_of(chunk)
             # PackBits may take more bytes than the samples; what is longer is fetched by parts.
@@ -98,6 +103,6 @@ class Planned:
     def read_run(self, plan: PagePlan, first: int, count: int, buffer: Any) -> None:
         """Reads `count` chunks from the number `first` on into an array, by one call."""
         with _library.locked(self.buffer) as (address, length):
-            place, size = buffer.ctypes.data, buffer.nbytes
+            place, size = _library.address_of(buffer), buffer.nbytes
             call = _library.READ_PLANNED_CHUNKS
             _library.check(call(address, length, plan, first, count, place, size))

@@ -57,9 +57,7 @@ def checked_samples(
     page: TiffPage, source: Source, chunk: int, samples: NDArray[Any]
 ) -> NDArray[Any]:
     """Returns the samples of a chunk, of the shape and the number type that the page has there."""
-    given, grid = numpy.asarray(samples), source.grid
-    _, row, column = grid.place(chunk)
-    sides = grid.rows_from(row), grid.columns_from(column)
+    given, sides = numpy.asarray(samples), source.grid.sides(chunk)
     shape = (*sides, source.form.samples) if page.axes == "YXS" else sides
     if given.shape != shape or given.dtype.newbyteorder("=") != page.dtype.newbyteorder("="):
         what = f"samples have {given.shape} {given.dtype}"

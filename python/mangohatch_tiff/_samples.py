@@ -2,6 +2,7 @@
 from __future__ import annotations
 
 from dataclasses import dataclass
+from functools import cached_property
 from typing import Any
 
 import numpy
@@ -49,7 +50,7 @@ class Form:
     swapped: bool = False
     alone: bool = False
 
-    @property
+    @cached_property
     def is_direct(self) -> bool:
         """Whether the library's bytes are those of the array, but for a complement."""
         return self.bits == 8 * self.dtype.itemsize and not self.swapped

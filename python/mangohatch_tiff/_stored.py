@@ -119,8 +119,7 @@ class Stored:
 
     def chunk(self, grid: Grid, chunk: int) -> NDArray[Any]:
         """Returns the rows, columns and samples of a chunk, cut at the edges of the image."""
-        _, row, column = grid.place(chunk)
-        rows, columns = grid.rows_from(row), grid.columns_from(column)
+        rows, columns = grid.sides(chunk)
         if not (self.offsets[chunk] and self.lengths[chunk]):
             missing = numpy.array(self.form.missing).astype(self.form.dtype)
             return numpy.full((rows, columns, self.form.samples), missing)
