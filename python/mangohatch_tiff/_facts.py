@@ -327,7 +327,7 @@ class PageFacts:
         """Whether the array has a dimension for the samples of a pixel."""
         return self.photometric == PHOTOMETRIC.RGB or self.samplesperpixel > 1
 
-    @property
+    @cached_property
     def axes(self) -> str:
         """A letter for each dimension of the array: Y rows, X columns, S samples."""
         if not self._has_samples:
