@@ -738,12 +738,16 @@ class locked:
         self.owner = owner
 
     def __enter__(self) -> tuple[int, int]:
-        # A view locks a file as well, and takes a tenth of the time. It doesn't tell the address.
+        # A view locks in less time than `_GET_BUFFER`, but doesn't tell the address.
         self.view = memoryview(self.owner)
         if isinstance(self.owner, Mapped):
             self.owner.address = self.owner.address or _address(self.owner)
             return self.owner.address, self.view.nbytes
-        return _address(self.owner), self.view.nbytes
+        try:
+            return _address(self.owner), self.view.nbytes
+        except BufferError:
+            self.view.release()
+            raise
 
     def __exit__(self, kind: object, error: object, trace: object) -> None:
         self.view.release()
