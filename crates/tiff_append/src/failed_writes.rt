@@ -19,7 +19,8 @@ pub struct FailedWrites {
 impl FailedWrites {
     /// No write failed.
     pub fn none() -> FailedWrites
-        ensures { length result.writes ≡ 0 }
+        ensures writes { length result.writes ≡ 0 }
+        ensures last { result.last ≡ None }
     {
         FailedWrites {
             writes: GhostBytes::new(),

@@ -33,12 +33,12 @@ pub use self::directory::state::HasDirectory;
 pub use self::image::begin::columns;
 pub use self::image::encoder::ImageEncoder;
 pub use self::kind::{DirectoryOffset, OffsetNumber, TiffKind, TiffKindBig, TiffKindStandard};
+use self::limits::offset_size;
 pub use self::settings::Compression;
 use std::alloc::Global;
 use std::marker::{Model, PhantomData};
 use tiff_base::error::{TiffError, TiffResult};
 use tiff_base::io::{IoKind, Sink};
-use tiff_base::tags::FileKind;
 pub use tiff_base::tags::Predictor;
 use tiff_value::encoder::chunk::write_chunk;
 use tiff_value::encoder::horizontal_predictor::Sample;
@@ -114,7 +114,7 @@ impl<W: Sink, K: TiffKind> TiffEncoder<W, K> {
                 return Err(fault);
             }
         }
-        let chain = writer.offset() - offset_size::<K>();
+        let chain = writer.offset() - offset_size(K::file_kind());
         Ok(TiffEncoder {
             alloc,
             writer,
@@ -155,7 +155,7 @@ impl<W: Sink, K: TiffKind> TiffEncoder<W, K> {
     {
         let writer = TiffWriter::new(sink);
         let len = writer.len();
-        if len < link || len - link < offset_size::<K>() {
+        if len < link || len - link < offset_size(K::file_kind()) {
             return Err(TiffError::IoError(IoKind::InvalidInput));
         }
         Ok(TiffEncoder {
@@ -166,16 +166,6 @@ impl<W: Sink, K: TiffKind> TiffEncoder<W, K> {
             compression: Compression::Uncompressed,
             kind: PhantomData,
         })
-    }
-}
-
-// Returns the number of bytes of an offset in a file of the kind `K`.
-fn offset_size<K: TiffKind>() -> u64
-    ensures { result ≡ offset_len K.kind }
-{
-    match K::file_kind() {
-        FileKind::Classic => 4,
-        FileKind::Big => 8,
     }
 }
 

@@ -322,7 +322,7 @@ impl<W: Sink, K: TiffKind> TiffEncoder<W, K> {
 
     // Writes the chunks that are left, one after another. After an error the chunks before the one
     // that failed are in the file.
-    fn put_chunks_left<C: ColorType>(
+    fn write_chunks_left<C: ColorType>(
         &mut self,
         image: &mut ImageState<C>,
         samples: ImageSamples<'_, C::Inner>,
@@ -351,24 +351,6 @@ impl<W: Sink, K: TiffKind> TiffEncoder<W, K> {
         if matches!(image.compression, Compression::Uncompressed) && !image.is_begun() {
             self.reserve(samples.saturating_mul(u64::from(len)));
         }
-    }
-
-    // Writes the chunks that are left, after room was made for them. After an error the chunks before
-    // the one that failed are in the file.
-    fn write_chunks_left<C: ColorType>(
-        &mut self,
-        image: &mut ImageState<C>,
-        samples: ImageSamples<'_, C::Inner>,
-    ) -> TiffResult<()>
-        requires storable { AreStorable (type_size C.Inner.value_type) image.old samples }
-        requires uncaused { write_image_data_cause self.old image.old (length
-            (given_numbers (type_size C.Inner.value_type) C.Inner.bits samples)) ≡ None }
-        ensures { WritesChunks image.old (parts_left image.old
-            (given_numbers (type_size C.Inner.value_type) C.Inner.bits samples.entry)) result
-            self.old self.new image.new }
-    {
-        self.reserve_data(image);
-        self.put_chunks_left(image, samples)
     }
 
     // Returns the first error of `write_data` of an image that applies to this number of samples,
@@ -408,6 +390,7 @@ impl<W: Sink, K: TiffKind> TiffEncoder<W, K> {
             self.old self.new }
     {
         self.check_data(image, samples.count())?;
+        self.reserve_data(image);
         self.write_chunks_left(image, samples)?;
         self.finish_image(image)?;
         Ok(())

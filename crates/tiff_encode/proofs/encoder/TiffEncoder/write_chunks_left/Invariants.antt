@@ -2,7 +2,7 @@ use Rattle.tiff_base.specs.Types.{type_size}
 use Rattle.tiff_encode.specs.Chunks.{parts_left}
 use Rattle.tiff_encode.specs.Given.{given_numbers}
 use Rattle.tiff_encode.proofs.Data.Written.{HasWritten}
-use Rattle.tiff_encode.proofs.encoder.TiffEncoder.put_chunks_left.Given as goal
+use Rattle.tiff_encode.proofs.encoder.TiffEncoder.write_chunks_left.Given as goal
 
 -- the first chunks are written
 abbrev pub invariant-loop-written : goal.invariant-loop-written

@@ -5,7 +5,7 @@ use Rattle.tiff_encode.specs.Chunks.{chunks_left}
 use Rattle.tiff_encode.specs.Given.{given_numbers}
 use Rattle.tiff_encode.proofs.Data.Written.{none_written, more_written, stops_written, all_written, data_fresh, data_few, data_fits, data_whole}
 use Rattle.tiff_encode.proofs.StoredBytes.{still_storable}
-use Rattle.tiff_encode.proofs.encoder.TiffEncoder.put_chunks_left.Goals as goal
+use Rattle.tiff_encode.proofs.encoder.TiffEncoder.write_chunks_left.Goals as goal
 
 pub chunks_left-written-end-requires : goal.chunks_left-written-end-requires
 chunks_left-written-end-requires g c =
