@@ -7,6 +7,7 @@ import os
 from ctypes import (
     POINTER,
     Structure,
+    addressof,
     byref,
     c_char_p,
     c_double,
@@ -600,7 +601,8 @@ _RELEASE_BUFFER = ctypes.PYFUNCTYPE(None, POINTER(_PyBuffer))(
     ("PyBuffer_Release", ctypes.pythonapi)
 )
 _CONTIGUOUS = 0
-_ANY_BYTE = ctypes.c_ubyte()
+_ANY_BYTE = c_ubyte()
+_FIRST_BYTE = c_ubyte.from_buffer
 # Linux's call that takes room on a disk, which os lacks: with `KEEP_SIZE` the file stays as long as
 # it is.
 _FALLOCATE = getattr(ctypes.CDLL(None), "fallocate", None)
@@ -709,6 +711,12 @@ def check(status: int) -> None:
         raise TiffError(status)
 
 
+def name_place(error: TiffError, page: int | None, tag: int | None = None) -> None:
+    """Names the page and the tag in an error, where it doesn't name another one."""
+    error.page = page if error.page is None else error.page
+    error.tag = tag if error.tag is None else error.tag
+
+
 class named:
     """Names the page and the tag in an error of the library that a `with` block raises."""
 
@@ -722,8 +730,7 @@ class named:
 
     def __exit__(self, kind: object, error: BaseException | None, trace: object) -> None:
         if isinstance(error, TiffError):
-            error.page = self.page if error.page is None else error.page
-            error.tag = self.tag if error.tag is None else error.tag
+            name_place(error, self.page, self.tag)
 
 
 class locked:
@@ -738,19 +745,29 @@ class locked:
         self.owner = owner
 
     def __enter__(self) -> tuple[int, int]:
-        # A view locks in less time than `_GET_BUFFER`, but doesn't tell the address.
-        self.view = memoryview(self.owner)
-        if isinstance(self.owner, Mapped):
-            self.owner.address = self.owner.address or _address(self.owner)
-            return self.owner.address, self.view.nbytes
-        try:
-            return _address(self.owner), self.view.nbytes
-        except BufferError:
-            self.view.release()
-            raise
+        self.view, address = lock(self.owner)
+        return address, self.view.nbytes
 
     def __exit__(self, kind: object, error: object, trace: object) -> None:
         self.view.release()
+
+
+def lock(owner: ReadableBuffer) -> tuple[memoryview, int]:
+    """Locks an object's own bytes until the view is released; returns the view and their address.
+
+    Nothing is copied. The object can be neither resized nor closed before that.
+    """
+    # A view locks in less time than `_GET_BUFFER`, but doesn't tell the address.
+    view = memoryview(owner)
+    if isinstance(owner, Mapped):
+        if not owner.address:
+            owner.address = _address(owner)
+        return view, owner.address
+    try:
+        return view, _address(owner)
+    except BufferError:
+        view.release()
+        raise
 
 
 def _address(owner: ReadableBuffer) -> int:
@@ -758,14 +775,18 @@ def _address(owner: ReadableBuffer) -> int:
     view = _PyBuffer()
     _GET_BUFFER(owner, byref(view), _CONTIGUOUS)
     try:
-        return view.buf or ctypes.addressof(_ANY_BYTE)
+        return view.buf or addressof(_ANY_BYTE)
     finally:
         _RELEASE_BUFFER(byref(view))
 
 
-def address_of(array: Any) -> int:
-    """Returns where the bytes of an array begin, which can be written and lie without gaps."""
-    return ctypes.addressof(c_ubyte.from_buffer(array) if array.nbytes else _ANY_BYTE)
+def memory_of(array: Any) -> tuple[int, int]:
+    """Returns the address of an array's bytes, and how many there are.
+
+    They can be written, and lie without gaps.
+    """
+    size: int = array.nbytes
+    return addressof(_FIRST_BYTE(array) if size else _ANY_BYTE), size
 
 
 def length_of(file: File) -> int:
@@ -936,7 +957,7 @@ def tag_floats(file: ReadableBuffer, page: int, number: int) -> tuple[float, ...
 def read_samples(call: Any, file: ReadableBuffer, place: tuple[int, ...], buffer: Any) -> None:
     """Reads samples of a page into an array; `place` is the page and what the call takes after."""
     with locked(file) as (address, length):
-        check(call(address, length, *place, address_of(buffer), buffer.nbytes))
+        check(call(address, length, *place, *memory_of(buffer)))
 
 
 def tag_text(file: ReadableBuffer, page: int, number: int) -> str:

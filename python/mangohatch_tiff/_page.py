@@ -86,6 +86,11 @@ class TiffPage(PageFacts):
         return {}
 
     @property
+    def _is_chunky(self) -> bool:
+        """Whether the array of a chunk has a dimension for the samples of a pixel."""
+        return self.axes == "YXS"
+
+    @property
     def _planes(self) -> int:
         """How many planes the page has in the file."""
         apart = self.planarconfig == PLANARCONFIG.SEPARATE
@@ -124,7 +129,7 @@ class TiffPage(PageFacts):
         )
         grid = self._grid(shown)
         at_once = grid.planes == self._samples.planes and not self._planned.is_by_ranges
-        return Source(self._planned, grid, form, at_once)
+        return Source(self._planned, grid, form, self._is_chunky, at_once)
 
     def _stored_source(self) -> Source:
         """Returns the page as samples that are taken from its chunks in the file."""
@@ -138,7 +143,7 @@ class TiffPage(PageFacts):
         if min(len(stored.offsets), len(stored.lengths)) < grid.planes * grid.down * grid.across:
             raise TiffError(Status.INCONSISTENT_SIZES_ENCOUNTERED, self._named)
         form = Form(self.dtype, 8 * self.dtype.itemsize, samples)
-        return Source(self._planned, grid, form, False, stored)
+        return Source(self._planned, grid, form, self._is_chunky, stored=stored)
 
     def _stored_lengths(self) -> tuple[int, ...]:
         """Returns how many bytes each chunk has; the one of a page may have all that follow it."""
@@ -259,10 +264,12 @@ class TiffPage(PageFacts):
         """
         if not 0 <= chunk < self.chunk_count:
             raise TiffError(Status.INVALID_CHUNK_INDEX, self._named)
-        source = self._source(shown)
-        with _library.named(self._named):
-            part = source.chunk(chunk)
-        return part if self.axes == "YXS" else part[:, :, 0]
+        source = self._sources.get(shown) or self._source(shown)
+        try:
+            return source.chunk(chunk)
+        except TiffError as error:
+            _library.name_place(error, self._named)
+            raise
 
     def place_of(self, chunk: int) -> tuple[int, int, int]:
         """Returns the plane of a strip or a tile, and the row and the column of its first pixel."""

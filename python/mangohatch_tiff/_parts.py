@@ -53,6 +53,16 @@ class Grid:
         """How many chunks lie one below the other in a plane."""
         return -(-self.height // self.chunk_height)
 
+    @cached_property
+    def _last_rows(self) -> int:
+        """How many rows of the image the lowest chunks have."""
+        return self.height - (self.down - 1) * self.chunk_height
+
+    @cached_property
+    def _last_columns(self) -> int:
+        """How many columns of the image the rightmost chunks have."""
+        return self.width - (self.across - 1) * self.chunk_width
+
     def number(self, plane: int, line: int, column: int) -> int:
         """Returns the number of a chunk, by its plane and its place there."""
         return (plane * self.down + line) * self.across + column
@@ -65,9 +75,9 @@ class Grid:
 
     def sides(self, chunk: int) -> tuple[int, int]:
         """Returns how many rows and columns of the image a chunk has."""
-        line, column = divmod(chunk, self.across)
-        row, column = line % self.down * self.chunk_height, column * self.chunk_width
-        return min(self.chunk_height, self.height - row), min(self.chunk_width, self.width - column)
+        across = self.across
+        rows = self.chunk_height if (chunk // across + 1) % self.down else self._last_rows
+        return rows, self.chunk_width if (chunk + 1) % across else self._last_columns
 
     def rows_from(self, row: int) -> int:
         """Returns how many rows of the image the chunks have that begin at a row."""
@@ -108,14 +118,16 @@ class Scratch(threading.local):
 class Source:
     """A page whose samples are read: how its chunks lie, and the form of their samples.
 
-    With `at_once`, one call reads all planes. With `stored`, the samples come from there,
-    in the form of the array.
+    With `chunky`, the array of a chunk has a dimension for the samples of a pixel; else a chunk has
+    one of them. With `at_once`, one call reads all planes. With `stored`, the samples come from
+    there, in the form of the array.
     """
 
     planned: Planned
     grid: Grid
     form: Form
-    at_once: bool
+    chunky: bool
+    at_once: bool = False
     stored: Stored | None = None
 
     @property
@@ -141,7 +153,7 @@ class Source:
         if self.stored:
             self.stored.read_chunks(self.grid, run, buffer)
         elif self.form.alone or run.count == 1 or self.planned.is_by_ranges:
-            self.planned.read(self._sized(run), buffer)
+            self._read_one_by_one(run, buffer)
         elif self._are_few(run) and self.planned.plan:
             self.planned.read_run(self.planned.plan, run.first, run.count, buffer)
         else:
@@ -151,11 +163,14 @@ class Source:
         """Tells whether a call by the page's plan takes less time than one that opens the page."""
         return run.count * OPENED < self.count
 
-    def _sized(self, run: Run) -> Iterator[tuple[int, int]]:
-        """Yields the number of each chunk of a run, and how many bytes the library reads of it."""
+    def _read_one_by_one(self, run: Run, buffer: NDArray[Any]) -> None:
+        """Reads each chunk of a run by a call of its own into an array, one behind the other."""
+        place, _ = _library.memory_of(buffer)
         for chunk in range(run.first, run.first + run.count):
             rows, columns = self.grid.sides(chunk)
-            yield chunk, rows * self.form.row_bytes(columns)
+            size = rows * self.form.row_bytes(columns)
+            self.planned.read(chunk, place, size)
+            place += size
 
     def read_whole(self, array: NDArray[Any]) -> None:
         """Reads the image into an array of planes, rows, columns and samples, by one call."""
@@ -169,25 +184,31 @@ class Source:
         self.read(_library.READ_IMAGE, raw)
         array[...] = form.natural(raw, grid.width).reshape(array.shape)
 
+    def shape_of(self, chunk: int) -> tuple[int, ...]:
+        """Returns the shape of the array of a chunk: rows, columns, and samples with `chunky`."""
+        sides = self.grid.sides(chunk)
+        return (*sides, self.form.samples) if self.chunky else sides
+
     def chunk(self, chunk: int) -> NDArray[Any]:
-        """Reads a chunk, as an array of rows, columns and samples."""
-        (rows, wide), form = self.grid.sides(chunk), self.form
+        """Reads a chunk, as an array of the shape that `shape_of` returns."""
+        shape, form = self.shape_of(chunk), self.form
         if form.is_direct:
-            part = numpy.empty((rows, wide, form.samples), form.dtype)
+            part = numpy.empty(shape, form.dtype)
             self._read_chunk(chunk, part)
             if form.turned:
                 numpy.bitwise_not(part, out=part)
             return part
-        raw = numpy.empty((rows, form.row_bytes(wide)), numpy.uint8)
+        raw = numpy.empty((shape[0], form.row_bytes(shape[1])), numpy.uint8)
         self._read_chunk(chunk, raw)
-        return form.natural(raw, wide)
+        return form.natural(raw, shape[1]).reshape(shape)
 
     def _read_chunk(self, chunk: int, buffer: NDArray[Any]) -> None:
         """Reads a chunk into an array of its size."""
         if self.stored:
             self.stored.read_chunks(self.grid, Run(chunk, 1), buffer)
         else:
-            self.planned.read(((chunk, buffer.nbytes),), buffer)
+            place, size = _library.memory_of(buffer)
+            self.planned.read(chunk, place, size)
 
     def chunks(self, run: Run) -> Iterator[tuple[tuple[int, int, int], NDArray[Any]]]:
         """Reads a run of chunks, and yields the place and the samples of each."""

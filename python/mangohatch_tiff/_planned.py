@@ -2,7 +2,7 @@
 from __future__ import annotations
 
 import ctypes
-from collections.abc import Callable, Iterable
+from collections.abc import Callable
 from functools import cached_property
 from typing import TYPE_CHECKING, Any
 
@@ -51,11 +51,6 @@ class Planned:
                 raise
             return None
 
-    @cached_property
-    def _given(self) -> Any:
-        """What a call gets for the page: its plan, or without one its number."""
-        return ctypes.pointer(self.plan) if self.plan else self.at
-
     @property
     def certain(self) -> PagePlan:
         """The plan of the page; without one, raises an error."""
@@ -75,34 +70,35 @@ class Planned:
             _library.check(status)
         return plan
 
-    def read(self, chunks: Iterable[tuple[int, int]], buffer: Any) -> None:
-        """Reads chunks into an array, one behind the other; each has a number and so many bytes."""
-        if isinstance(self.file, Windows):
-            self._read_by_ranges(self.file, chunks, buffer)
+    def read(self, chunk: int, place: int, size: int) -> None:
+        """Reads a chunk into memory: `place` is its address, and `size` how many bytes it has."""
+        file, plan = self.file, self.plan
+        if isinstance(file, Windows):
+            self._read_by_ranges(file, chunk, place, size)
             return
-        call = _library.READ_PLANNED_CHUNK if self.plan else _library.READ_CHUNK
-        page, place = self._given, _library.address_of(buffer)
-        with _library.locked(self.file) as (address, length):
-            for chunk, size in chunks:
-                _library.check(call(address, length, page, chunk, place, size))
-                place += size
+        view, address = _library.lock(file)
+        try:
+            if plan is None:
+                status = _library.READ_CHUNK(address, view.nbytes, self.at, chunk, place, size)
+            else:
+                call = _library.READ_PLANNED_CHUNK
+                status = call(address, view.nbytes, plan, chunk, place, size)
+        finally:
+            view.release()
+        if status:
+            raise TiffError(status)
 
-    def _read_by_ranges(
-        self, file: Windows, chunks: Iterable[tuple[int, int]], buffer: Any
-    ) -> None:
-        """Reads chunks of a file that isn't in memory; the bytes of each are fetched together."""
-        plan, place = self.certain, _library.address_of(buffer)
-        for chunk, size in chunks:
-            offset, length = self.place_of(chunk)
-            # PackBits may take more bytes than the samples; what is longer is fetched by parts.
-            together = offset, min(length, 2 * size)
-            call = _library.READ_PLANNED_CHUNK_IN
-            _library.check(file.run(call, plan, chunk, place, size, together=together))
-            place += size
+    def _read_by_ranges(self, file: Windows, chunk: int, place: int, size: int) -> None:
+        """Reads a chunk of a file that isn't in memory; its bytes are fetched together."""
+        plan, (offset, length) = self.certain, self.place_of(chunk)
+        # PackBits may take more bytes than the samples; what is longer is fetched by parts.
+        together = offset, min(length, 2 * size)
+        call = _library.READ_PLANNED_CHUNK_IN
+        _library.check(file.run(call, plan, chunk, place, size, together=together))
 
     def read_run(self, plan: PagePlan, first: int, count: int, buffer: Any) -> None:
         """Reads `count` chunks from the number `first` on into an array, by one call."""
         with _library.locked(self.buffer) as (address, length):
-            place, size = _library.address_of(buffer), buffer.nbytes
             call = _library.READ_PLANNED_CHUNKS
-            _library.check(call(address, length, plan, first, count, place, size))
+            memory = _library.memory_of(buffer)
+            _library.check(call(address, length, plan, first, count, *memory))

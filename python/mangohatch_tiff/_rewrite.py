@@ -57,8 +57,7 @@ def checked_samples(
     page: TiffPage, source: Source, chunk: int, samples: NDArray[Any]
 ) -> NDArray[Any]:
     """Returns the samples of a chunk, of the shape and the number type that the page has there."""
-    given, sides = numpy.asarray(samples), source.grid.sides(chunk)
-    shape = (*sides, source.form.samples) if page.axes == "YXS" else sides
+    given, shape = numpy.asarray(samples), source.shape_of(chunk)
     if given.shape != shape or given.dtype.newbyteorder("=") != page.dtype.newbyteorder("="):
         what = f"samples have {given.shape} {given.dtype}"
         raise ValueError(f"{what}, and chunk {chunk} {shape} {page.dtype}")
