@@ -44,8 +44,8 @@ def codes(file: File, offset: int, order: str) -> tuple[int, ...]:
     first = offset + struct.calcsize("=" + form)
     (count,) = struct.unpack(order + form, _library.part(file, offset, first - offset))
     entries = _library.part(file, first, count * size)
-    held = range(0, len(entries) // size * size, size)
-    return tuple(struct.unpack_from(order + "H", entries, entry)[0] for entry in held)
+    held = entries[: len(entries) // size * size]
+    return tuple(code for (code,) in struct.iter_unpack(f"{order}H{size - 2}x", held))
 
 
 def alone(tag: StoredTag, big: bool, order: str) -> tuple[bytes, int]:

@@ -20,7 +20,6 @@ from ._library import Chunks, Color, ColorKind, ListedPage, Samples, Status, Tif
 from ._library import UnsupportedError
 from ._planned import Planned
 from ._tags import Tags
-from ._windows import Windows
 
 if TYPE_CHECKING:
     import numpy
@@ -112,21 +111,32 @@ class PageFacts:
     def _chunks(self) -> Chunks:
         """The page's strips or tiles."""
         with _library.named(self._named):
-            if isinstance(self._file, Windows):
-                kind, count, plan = self._facts.chunk_kind, self.chunk_count, self._planned.certain
-                return Chunks(kind, count, plan.chunk_width, plan.chunk_height)
-            return _library.result_of(_library.PAGE_CHUNKS, Chunks, self._file, self._at)
+            planned, kind, count = self._planned, self._facts.chunk_kind, self.chunk_count
+            if planned.plan is None and not planned.is_by_ranges:
+                return _library.result_of(_library.PAGE_CHUNKS, Chunks, planned.buffer, self._at)
+            plan = planned.certain
+            return Chunks(kind, count, plan.chunk_width, plan.chunk_height)
 
     @cached_property
     def _samples(self) -> Samples:
         """What the samples of the page are, and how they are laid out."""
         with _library.named(self._named):
-            if isinstance(self._file, Windows):
-                color, plan = self._color, self._planned.laid_out()
-                planes = 1 if plan.planar == PLANARCONFIG.CONTIG else color.samples
-                inverted = int(plan.photometric == PHOTOMETRIC.MINISWHITE)
-                return Samples(plan.sample_format, color.bits, color.samples, planes, inverted)
-            return _library.result_of(_library.PAGE_SAMPLES, Samples, self._file, self._at)
+            planned = self._planned
+            if not planned.is_by_ranges and not self._is_laid_out:
+                return _library.result_of(_library.PAGE_SAMPLES, Samples, planned.buffer, self._at)
+            color = self._color
+            plan = planned.laid_out() if planned.is_by_ranges else planned.certain
+            planes = 1 if plan.planar == PLANARCONFIG.CONTIG else color.samples
+            inverted = int(plan.photometric == PHOTOMETRIC.MINISWHITE)
+            return Samples(plan.sample_format, color.bits, color.samples, planes, inverted)
+
+    @property
+    def _is_laid_out(self) -> bool:
+        """Whether the samples of the page surely have a layout, so that no call has to tell it."""
+        listed = self._listed
+        if listed.status or listed.color_status or self._is_by_tags:
+            return False
+        return self._planned.is_laid_out(listed.color)
 
     @cached_property
     def _planned(self) -> Planned:

@@ -83,7 +83,7 @@ class TiffFile(Closing):
     def _opened(self, source: Any) -> ReadableBuffer:
         """Returns the bytes of a file at a path, of an open file, or of a buffer."""
         if isinstance(source, (str, os.PathLike)):
-            with open(source, "rb") as file:
+            with open(source, "rb", buffering=0) as file:
                 return self._mapped(file.fileno(), source)
         is_file = hasattr(source, "read") and hasattr(source, "seek")
         if isinstance(source, mmap.mmap) or not is_file:
@@ -106,11 +106,9 @@ class TiffFile(Closing):
     def _mapped(
         self, number: int, path: str | os.PathLike[str] | None = None
     ) -> ReadableBuffer:
-        """Maps an open file into memory. An empty file has no bytes to map."""
-        if not os.fstat(number).st_size:
-            return b""
+        """Maps an open file into memory."""
         self._map = mapped(number, path)
-        return self._map
+        return b"" if self._map is None else self._map
 
     def close(self) -> None:
         """Unmaps or closes a file that this one opened; its pages can't be read then.

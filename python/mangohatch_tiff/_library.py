@@ -3,6 +3,7 @@ from __future__ import annotations
 
 import ctypes
 import ctypes.util
+import mmap
 import os
 from ctypes import (
     POINTER,
@@ -156,6 +157,8 @@ BIG_ENDIAN = 1
 # list.
 SHORT_PAGE = 64
 FIRST_CAPACITY = 1 << 14
+# The room for a list of as many bytes is memory that the system clears when it is first written.
+LONG_ROOM = 1 << 17
 # The most bytes of a file's header.
 HEADER = 16
 # How many values of a tag fit into the first call.
@@ -418,9 +421,11 @@ class Appended(Structure):
 class PagePlan(Structure):
     """The plan of a page, by which the library reads each of its chunks without opening the page.
 
-    A page of a file that isn't in memory has its facts from the members that are declared.
+    A page has the facts of its chunks and samples from the members that are declared.
     """
 
+    width: int
+    height: int
     chunk_width: int
     chunk_height: int
     photometric: int
@@ -835,6 +840,13 @@ def offset_of(page: int) -> int:
     return page & ~(1 << 63)
 
 
+def _room(kind: type[Result], capacity: int) -> Any:
+    """Returns an array for so many structs. Of a long one, only what a call writes takes memory."""
+    array = kind * capacity
+    size = ctypes.sizeof(array)
+    return array() if size < LONG_ROOM else array.from_buffer(mmap.mmap(-1, size))
+
+
 def _listed(
     call: Any, call_in: Any, kind: type[Result], file: File
 ) -> tuple[list[Result], Status]:
@@ -845,11 +857,11 @@ def _listed(
     """
     count = c_size_t()
     capacity = min(length_of(file) // SHORT_PAGE + 1, FIRST_CAPACITY)
-    listed = (kind * capacity)()
+    listed = _room(kind, capacity)
     end = status_of(file, call, call_in, listed, capacity, byref(count))
     if count.value > capacity:
         capacity = count.value
-        listed = (kind * capacity)()
+        listed = _room(kind, capacity)
         end = status_of(file, call, call_in, listed, capacity, byref(count))
     return list((kind * min(count.value, capacity)).from_buffer_copy(listed)), Status(end)
 
@@ -926,10 +938,22 @@ def tag_bytes(file: File, page: int, number: int, start: int, size: int) -> byte
     """Returns bytes of the values of a tag, as many as there are from a first one on."""
     # Values that are longer than the file don't lie in it; the call returns that error.
     buffer = ctypes.create_string_buffer(min(size, length_of(file) + 1) or 1)
-    place, written = (page, number, start), c_size_t()
-    calls = TAG_BYTES, TAG_BYTES_IN
-    check(status_of(file, *calls, *place, buffer, len(buffer), byref(written)))
-    return buffer.raw[: written.value]
+    place = addressof(buffer)
+    written = read_tag_bytes(file, page, number, start, place, len(buffer))
+    return buffer.raw[:written]
+
+
+def read_tag_bytes(
+    file: File, page: int, number: int, start: int, place: int, size: int
+) -> int:
+    """Reads bytes of the values of a tag into memory, from a first one on; returns how many.
+
+    `place` is the address of the memory, and `size` how many bytes it has.
+    """
+    written = c_size_t()
+    given = page, number, start, place, size, byref(written)
+    check(status_of(file, TAG_BYTES, TAG_BYTES_IN, *given))
+    return written.value
 
 
 def tag_numbers(file: ReadableBuffer, page: int, number: int) -> tuple[int, ...]:

@@ -22,11 +22,14 @@ class Mapped(mmap.mmap):
         self.madvise(mmap.MADV_DONTNEED)
 
 
-def mapped(number: int, path: str | os.PathLike[str] | None = None) -> Mapped:
-    """Maps an open file, by its number, to be read."""
+def mapped(number: int, path: str | os.PathLike[str] | None = None) -> Mapped | None:
+    """Maps an open file, by its number, to be read; an empty file has no bytes to map."""
+    found = os.fstat(number)
+    if not found.st_size:
+        return None
     made = Mapped(number, 0, access=mmap.ACCESS_READ)
     made.path = None if path is None else os.path.abspath(path)
-    made.identity = identity_of(number)
+    made.identity = found.st_dev, found.st_ino
     return made
 
 

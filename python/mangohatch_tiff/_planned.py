@@ -7,7 +7,8 @@ from functools import cached_property
 from typing import TYPE_CHECKING, Any
 
 from . import _library
-from ._library import PagePlan, Status, TiffError, UnsupportedError
+from ._enums import PHOTOMETRIC, PLANARCONFIG
+from ._library import Color, PagePlan, Status, TiffError, UnsupportedError
 from ._windows import Windows
 
 if TYPE_CHECKING:
@@ -17,6 +18,8 @@ if TYPE_CHECKING:
 
 OTHER_TYPES = "a page whose offsets or byte counts are of another type than SHORT, LONG or LONG8"
 OTHER_TYPES += ", of a file that is read by ranges"
+# An image of fewer bits has a layout, whatever its sides are.
+MOST_BITS = 1 << 63
 
 
 class Planned:
@@ -69,6 +72,22 @@ class Planned:
         if status != Status.INSUFFICIENT_OUTPUT_BUFFER_SIZE:
             _library.check(status)
         return plan
+
+    def is_laid_out(self, color: Color) -> bool:
+        """Tells whether the samples of a page of this color surely have a layout.
+
+        Else the library tells it, which takes as long as to open the page. So it does of a page
+        without a plan, of YCbCr, of rows of tiles that may end within a byte, and of a large image.
+        """
+        plan = self.plan
+        if plan is None or plan.photometric == PHOTOMETRIC.YCBCR:
+            return False
+        side_by_side = color.samples if plan.planar == PLANARCONFIG.CONTIG else 1
+        parts_of_bytes = plan.chunk_width * side_by_side * color.bits % 8
+        if parts_of_bytes and plan.chunk_width < plan.width:
+            return False
+        pixels = plan.width * max(plan.height, plan.chunk_height)
+        return pixels * color.samples * color.bits < MOST_BITS
 
     def read(self, chunk: int, place: int, size: int) -> None:
         """Reads a chunk into memory: `place` is its address, and `size` how many bytes it has."""

@@ -406,5 +406,10 @@ class Tags:
             return 0 in self.told(number)
         import numpy
 
-        data = self._stored(number, field.kind, field.count)
-        return not numpy.frombuffer(data, f"u{value_size(field.kind)}").all()
+        each = value_size(field.kind)
+        raw = numpy.empty(field.count * each, numpy.uint8)
+        with _library.named(self._index, number):
+            held = _library.read_tag_bytes(
+                self._file, self._page, number, 0, *_library.memory_of(raw)
+            )
+        return not raw[:held].view(f"u{each}").min(initial=1)

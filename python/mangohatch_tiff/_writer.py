@@ -199,10 +199,10 @@ class Held:
             self._views.append(whole.release)
         else:
             self._file.flush()
-            size = os.fstat(self._file.fileno()).st_size
-            whole = mapped(self._file.fileno()) if size else b""
-            if size:
-                self._views.append(whole.close)
+            found = mapped(self._file.fileno())
+            whole = b"" if found is None else found
+            if found is not None:
+                self._views.append(found.close)
         view = memoryview(whole)
         part = view[self._start :]
         self._views += [view.release, part.release]

@@ -3,16 +3,18 @@ from __future__ import annotations
 
 import io
 import random
-from ctypes import byref
+import struct
+from collections.abc import Callable
+from ctypes import Structure, byref
 
 import numpy
 import pytest
 import tifffile
-from conftest import DATA, gray_file, pyramid, samples
+from conftest import DATA, directory, gray_file, pyramid, samples
 
 import mangohatch_tiff as mt
-from mangohatch_tiff import _library, _parts
-from mangohatch_tiff._library import PagePlan
+from mangohatch_tiff import Status, _library, _parts
+from mangohatch_tiff._library import Chunks, PagePlan, Samples
 
 NAMES = sorted(path.name for path in DATA.glob("*.tif"))
 GRAY, COLORS = samples((40, 50), "u2"), samples((40, 50, 3), "u1")
@@ -26,6 +28,28 @@ WRITTEN = {
 # A chunk is read into so many bytes more than it may have, and into fewer.
 MORE, CHANGES = 64, 40
 # The first chunk and how many: none, chunks that are there or not, more than have numbers.
+# What a page of 24 by 16 pixels has, in two tiles or in other ones, and the status of its layout.
+FACTS = {256: 24, 257: 16, 258: 8, 259: 1, 262: 1, 277: 1, 284: 1, 322: 12, 323: 16}
+LARGE = 1 << 31
+LAYOUTS: dict[str, tuple[dict[int, int], int]] = {
+    "bytes": ({}, Status.DONE),
+    "parts of bytes": ({258: 1}, Status.MISALIGNED_TILE_BOUNDARIES),
+    "parts of bytes in planes": ({258: 1, 277: 2, 284: 2}, Status.MISALIGNED_TILE_BOUNDARIES),
+    "whole bytes of two samples": ({258: 2, 277: 2}, Status.DONE),
+    "one tile of parts of bytes": ({256: 11, 258: 1}, Status.DONE),
+    "chroma in two by two": ({262: 6, 277: 3}, Status.CHROMA_SUBSAMPLING),
+    "no color": ({262: 2, 277: 2}, Status.INTERPRETATION_WITH_BITS),
+    "a large image": ({256: LARGE, 257: LARGE, 322: LARGE, 323: LARGE}, Status.DONE),
+    "too large": (
+        {256: LARGE, 257: 2 * LARGE - 1, 258: 64, 322: LARGE, 323: LARGE}, Status.LIMITS_EXCEEDED
+    ),
+    "too large tiles": (
+        {256: LARGE, 258: 64, 322: LARGE, 323: 2 * LARGE - 1}, Status.LIMITS_EXCEEDED
+    ),
+    "planes that are too large": (
+        {256: LARGE, 257: LARGE, 277: 8, 284: 2, 322: LARGE, 323: LARGE}, Status.LIMITS_EXCEEDED
+    ),
+}
 RUNS = [(0, 0), (0, 1), (0, 4), (1, 3), (3, 9), (39, 0), (1, 2**32 - 1), (2**32 - 1, 0)]
 
 
@@ -50,7 +74,6 @@ def test_a_page_takes_its_plan_once(workers: int, monkeypatch: pytest.MonkeyPatc
     monkeypatch.setattr(_parts, "OPENED", 0)
     plans, others = counted(monkeypatch, "PAGE_PLAN"), counted(monkeypatch, "READ_CHUNKS")
     numpy.testing.assert_array_equal(page.asarray(workers=1), image)
-    assert not plans
     page.read_chunk(3)
     ones = counted(monkeypatch, "READ_PLANNED_CHUNK")
     runs = counted(monkeypatch, "READ_PLANNED_CHUNKS")
@@ -103,6 +126,47 @@ def test_pages_out_of_the_chain(big: bool, order: str) -> None:
             )
 
 
+def tiled_file(facts: dict[int, int]) -> bytes:
+    """Returns a file of one page of tiles that it doesn't have."""
+    wide, high = -(-facts[256] // facts[322]), -(-facts[257] // facts[323])
+    count = wide * high * (facts[277] if facts[284] == 2 else 1)
+    numbers = {**{tag: [number] for tag, number in facts.items()}, 324: [8] * count}
+    numbers[325] = [1] * count
+    fields = {
+        tag: (4, len(values), struct.pack(f"<{len(values)}I", *values))
+        for tag, values in sorted(numbers.items())
+    }
+    return struct.pack("<2sHI", b"II", 42, 8) + directory(fields, 8)
+
+
+def told(call: Callable[[], Structure]) -> list[int]:
+    """Returns the numbers that a call returns, or the status of its error."""
+    try:
+        result = call()
+    except mt.TiffError as error:
+        return [error.status]
+    return [Status.DONE, *(getattr(result, name) for name, *_ in result._fields_)]
+
+
+def assert_told_the_same(file: bytes) -> list[int]:
+    """Compares what a page has by its plan and by calls; returns the statuses of the layouts."""
+    statuses = []
+    for page in mt.TiffFile(file).pages[:3]:
+        place = page._at
+        chunks = told(lambda: _library.result_of(_library.PAGE_CHUNKS, Chunks, file, place))
+        laid = told(lambda: _library.result_of(_library.PAGE_SAMPLES, Samples, file, place))
+        assert page._is_by_tags or told(lambda: page._chunks) == chunks
+        assert told(lambda: page._samples) == laid
+        statuses.append(laid[0])
+    return statuses
+
+
+@pytest.mark.parametrize("name", LAYOUTS)
+def test_a_page_has_the_layout_that_the_library_tells(name: str) -> None:
+    facts, status = LAYOUTS[name]
+    assert assert_told_the_same(tiled_file({**FACTS, **facts})) == [status]
+
+
 def assert_read_the_same(file: bytes, place: int, size: int) -> int:
     """Compares the chunks of a page as its plan and as its number read them; returns how many."""
     plan, count = PagePlan(), 0
@@ -136,6 +200,8 @@ def assert_pages_read_the_same(file: bytes) -> int:
     except mt.TiffError:
         return 0
     count = 0
+    if listed:
+        assert_told_the_same(file)
     for number, page in enumerate(listed[:3]):
         size = min(1 << 16, 16 * page.width * page.height)
         for place in (number, _library.at(page.offset)):
