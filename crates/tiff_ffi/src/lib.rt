@@ -579,10 +579,10 @@ pub fn write_pages(
 /// behind those of the page before, and then the samples of the page; and at its end the bytes of
 /// `buffer` that are left. A page that is compressed, or has differences, or has tiles or planes
 /// and isn't given by its tiles, or has more samples than its image, isn't one of these pages, nor is
-/// any page behind it; nor is one where `fronts` has no place for it. If a page has a parent, or memory is short, `frame.framed` is 0. The
-/// errors are those of `write_pages`; an error leaves `buffer` and `fronts` as they were, and `frame`
-/// too, unless only the buffer is too short. The call allocates what it puts into `buffer`, and what
-/// `write_pages` allocates besides its file.
+/// any page behind it; nor is one where `fronts` has no place for it. If a page has a parent, or
+/// memory is short, `frame.framed` is 0. The errors are those of `write_pages`; an error leaves
+/// `buffer` and `fronts` as they were, and `frame` too, unless only the buffer is too short. The call
+/// allocates what it puts into `buffer`, and what `write_pages` allocates besides its file.
 #[tactic(auto, using(crate::proofs::FramedPages::told_frame, crate::proofs::FramedPages::kept_frame))]
 pub fn pages_frame(
     alloc: Global,

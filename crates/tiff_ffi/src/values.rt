@@ -1,9 +1,8 @@
 //! The values of a tag of a page, put into a slice of the caller's in the machine's byte order, as
 //! many as fit.
 
-ghost use Rattle.std.specs.Prelude.{◌≡◌, map, string_bytes, OnErr};
-ghost use Rattle.tiff_base.specs.Answers.{Answers, AnswersWithoutSource};
-ghost use Rattle.tiff_decode.specs.Outcome as outcome;
+ghost use Rattle.std.specs.Prelude.{◌≡◌, map, OnErr};
+ghost use Rattle.tiff_base.specs.Answers.{AnswersWithoutSource};
 ghost use Rattle.tiff_decode.specs.Reader.{reader_of};
 ghost use Rattle.tiff_decode.specs.ReplyView.{bits_64};
 ghost use Rattle.tiff_ffi.specs.List.{filled};
@@ -37,50 +36,135 @@ fn fill_bits(out: &mut [u64], items: &[Bits64])
     }
 }
 
-// The numbers of a tag: of a decoder's page, or of another directory of its file.
-fn numbers_of<R: Source>(
-    decoder: &mut Decoder<R>,
-    other: &Option<Directory>,
-    tag: Tag,
-) -> TiffResult<Vec<u64>>
-    ensures { Answers (λ v. v.items) result
-        (outcome.get_tag_u64_vec (reader_of decoder.old other.now) tag).answer
-        decoder.old.failures decoder.new.failures }
-{
-    tags_of(decoder, other).get_tag_u64_vec(tag)
+// The values of a tag, as C gets them: words of a type, the first ones in a slice of the caller's.
+trait TagValues<T>: Sized {
+    ghost use Rattle.std.specs.Prelude.{◌≡◌, List, Result, length};
+    ghost use Rattle.tiff_base.specs.declared.error.TiffError.{TiffError};
+    ghost use Rattle.tiff_base.specs.declared.tags.Tag.{Tag};
+    ghost use Rattle.tiff_base.specs.Answers.{Answers};
+    ghost use Rattle.tiff_decode.specs.Machine.{Decoding};
+    ghost use Rattle.tiff_decode.specs.Reader.{reader_of};
+    ghost use Rattle.tiff_ffi.specs.List.{filled};
+
+    // The words, and those that a decoder reads of a tag.
+    ghost words: { Self → List T };
+
+    ghost found: { Decoding → Tag → Result (List T) TiffError };
+
+    // Reads the values of a tag: of a decoder's page, or of another directory of its file.
+    fn read<R: Source>(
+        decoder: &mut Decoder<R>,
+        other: &Option<Directory>,
+        tag: Tag,
+    ) -> TiffResult<Self>
+        ensures { Answers words result (found (reader_of decoder.old other.now) tag)
+            decoder.old.failures decoder.new.failures };
+
+    // Puts as many words into a slice as fit, and returns how many there are; the elements behind
+    // them stay.
+    fn put(&self, out: &mut [T]) -> usize
+        ensures count { result ≡ length (words self.now) }
+        ensures out { out.new ≡ filled (words self.now) out.old };
 }
 
-// The numbers of a tag, of a decoder whose reads never fail.
+impl TagValues<u64> for Vec<u64> {
+    ghost use Rattle.tiff_decode.specs.Outcome.{get_tag_u64_vec};
+
+    ghost words = { λ v. v.items };
+
+    ghost found = { λ d tag. (get_tag_u64_vec d tag).answer };
+
+    fn read<R: Source>(
+        decoder: &mut Decoder<R>,
+        other: &Option<Directory>,
+        tag: Tag,
+    ) -> TiffResult<Self> {
+        tags_of(decoder, other).get_tag_u64_vec(tag)
+    }
+
+    fn put(&self, out: &mut [u64]) -> usize {
+        fill(out, self);
+        self.len()
+    }
+}
+
+impl TagValues<u64> for Vec<Bits64> {
+    ghost use Rattle.std.specs.Prelude.{map};
+    ghost use Rattle.tiff_decode.specs.Outcome.{get_tag_f64_vec};
+    ghost use Rattle.tiff_decode.specs.ReplyView.{bits_64};
+
+    ghost words = { λ v. map bits_64 v.items };
+
+    ghost found = { λ d tag. (get_tag_f64_vec d tag).answer };
+
+    fn read<R: Source>(
+        decoder: &mut Decoder<R>,
+        other: &Option<Directory>,
+        tag: Tag,
+    ) -> TiffResult<Self> {
+        tags_of(decoder, other).get_tag_f64_vec(tag)
+    }
+
+    fn put(&self, out: &mut [u64]) -> usize {
+        fill_bits(out, self);
+        self.len()
+    }
+}
+
+impl TagValues<u8> for String {
+    ghost use Rattle.std.specs.Prelude.{string_bytes};
+    ghost use Rattle.tiff_decode.specs.Outcome.{get_tag_ascii_string};
+
+    ghost words = { string_bytes };
+
+    ghost found = { λ d tag. (get_tag_ascii_string d tag).answer };
+
+    fn read<R: Source>(
+        decoder: &mut Decoder<R>,
+        other: &Option<Directory>,
+        tag: Tag,
+    ) -> TiffResult<Self> {
+        tags_of(decoder, other).get_tag_ascii_string(tag)
+    }
+
+    fn put(&self, out: &mut [u8]) -> usize {
+        let bytes = self.as_bytes();
+        fill(out, bytes);
+        bytes.len()
+    }
+}
+
+// The values of a tag, of a decoder whose reads never fail.
 #[tactic(auto, using(crate::proofs::Slices::answer_here))]
-fn numbers_here(
+fn values_here<T, V: TagValues<T>>(
     decoder: &mut Decoder<SliceSource<'_>>,
     other: &Option<Directory>,
     tag: Tag,
-) -> TiffResult<Vec<u64>>
-    ensures { AnswersWithoutSource (λ v. v.items) result
-        (outcome.get_tag_u64_vec (reader_of decoder.old other.now) tag).answer }
+) -> TiffResult<V>
+    ensures { AnswersWithoutSource V.words result (V.found (reader_of decoder.old other.now) tag) }
 {
     never_failed(decoder);
-    let answer = numbers_of(decoder, other, tag);
+    let answer = V::read(decoder, other, tag);
     never_failed(decoder);
     answer
 }
 
-// Puts the numbers of a tag into a slice, as many as fit, and returns how many there are.
-fn put_numbers(
-    decoder: &mut Decoder<SliceSource<'_>>,
-    other: &Option<Directory>,
-    tag: Tag,
-    out: &mut [u64],
+// Puts the values of a tag of a page into `out`, as many as fit, and returns how many there are. The
+// first error: of the file or the page; no such tag, `RequiredTagNotFound`; of reading the values.
+fn put_values<T, V: TagValues<T> + Drop>(
+    alloc: Global,
+    file: &[u8],
+    page: usize,
+    number: u16,
+    out: &mut [T],
 ) -> TiffResult<usize>
     ensures answer { AnswersWithoutSource (λ n. (n, out.new)) result
-        (values.counted (outcome.get_tag_u64_vec (reader_of decoder.old other.now) tag).answer
-        out.old) }
+        (values.tag_values V.found file.now page number out.old) }
     ensures stays { OnErr result (out.new ≡ out.old) }
 {
-    let numbers = numbers_here(decoder, other, tag)?;
-    fill(out, &numbers);
-    Ok(numbers.len())
+    let (mut decoder, other) = open_tags(alloc, file, page)?;
+    let found: V = values_here(&mut decoder, &other, Tag::from_u16_exhaustive(number))?;
+    Ok(found.put(out))
 }
 
 /// Puts the numbers of a tag of a page into `out`, as many as fit, and returns how many there are.
@@ -98,57 +182,7 @@ pub fn tag_numbers(
         (values.tag_numbers file.now page number out.old) }
     ensures stays { OnErr result (out.new ≡ out.old) }
 {
-    let tag = Tag::from_u16_exhaustive(number);
-    let (mut decoder, other) = open_tags(alloc, file, page)?;
-    put_numbers(&mut decoder, &other, tag, out)
-}
-
-// The bits of a tag's floating-point numbers: of a decoder's page, or of another directory of its
-// file.
-fn floats_of<R: Source>(
-    decoder: &mut Decoder<R>,
-    other: &Option<Directory>,
-    tag: Tag,
-) -> TiffResult<Vec<Bits64>>
-    ensures { Answers (λ v. map bits_64 v.items) result
-        (outcome.get_tag_f64_vec (reader_of decoder.old other.now) tag).answer
-        decoder.old.failures decoder.new.failures }
-{
-    tags_of(decoder, other).get_tag_f64_vec(tag)
-}
-
-// The bits of a tag's floating-point numbers, of a decoder whose reads never fail.
-#[tactic(auto, using(crate::proofs::Slices::answer_here))]
-fn floats_here(
-    decoder: &mut Decoder<SliceSource<'_>>,
-    other: &Option<Directory>,
-    tag: Tag,
-) -> TiffResult<Vec<Bits64>>
-    ensures { AnswersWithoutSource (λ v. map bits_64 v.items) result
-        (outcome.get_tag_f64_vec (reader_of decoder.old other.now) tag).answer }
-{
-    never_failed(decoder);
-    let answer = floats_of(decoder, other, tag);
-    never_failed(decoder);
-    answer
-}
-
-// Puts the bits of a tag's floating-point numbers into a slice, as many as fit, and returns how
-// many there are.
-fn put_floats(
-    decoder: &mut Decoder<SliceSource<'_>>,
-    other: &Option<Directory>,
-    tag: Tag,
-    out: &mut [u64],
-) -> TiffResult<usize>
-    ensures answer { AnswersWithoutSource (λ n. (n, out.new)) result
-        (values.counted (outcome.get_tag_f64_vec (reader_of decoder.old other.now) tag).answer
-        out.old) }
-    ensures stays { OnErr result (out.new ≡ out.old) }
-{
-    let floats = floats_here(decoder, other, tag)?;
-    fill_bits(out, &floats);
-    Ok(floats.len())
+    put_values::<u64, Vec<u64>>(alloc, file, page, number, out)
 }
 
 /// Puts the bits of the floating-point numbers of a tag of a page into `out`, as many as fit, and
@@ -166,56 +200,7 @@ pub fn tag_floats(
         (values.tag_floats file.now page number out.old) }
     ensures stays { OnErr result (out.new ≡ out.old) }
 {
-    let tag = Tag::from_u16_exhaustive(number);
-    let (mut decoder, other) = open_tags(alloc, file, page)?;
-    put_floats(&mut decoder, &other, tag, out)
-}
-
-// The text of a tag: of a decoder's page, or of another directory of its file.
-fn text_of<R: Source>(
-    decoder: &mut Decoder<R>,
-    other: &Option<Directory>,
-    tag: Tag,
-) -> TiffResult<String>
-    ensures { Answers string_bytes result
-        (outcome.get_tag_ascii_string (reader_of decoder.old other.now) tag).answer
-        decoder.old.failures decoder.new.failures }
-{
-    tags_of(decoder, other).get_tag_ascii_string(tag)
-}
-
-// The text of a tag, of a decoder whose reads never fail.
-#[tactic(auto, using(crate::proofs::Slices::answer_here))]
-fn text_here(
-    decoder: &mut Decoder<SliceSource<'_>>,
-    other: &Option<Directory>,
-    tag: Tag,
-) -> TiffResult<String>
-    ensures { AnswersWithoutSource string_bytes result
-        (outcome.get_tag_ascii_string (reader_of decoder.old other.now) tag).answer }
-{
-    never_failed(decoder);
-    let answer = text_of(decoder, other, tag);
-    never_failed(decoder);
-    answer
-}
-
-// Puts the bytes of a tag's text into a slice, as many as fit, and returns how many there are.
-fn put_text(
-    decoder: &mut Decoder<SliceSource<'_>>,
-    other: &Option<Directory>,
-    tag: Tag,
-    out: &mut [u8],
-) -> TiffResult<usize>
-    ensures answer { AnswersWithoutSource (λ n. (n, out.new)) result
-        (values.counted (outcome.get_tag_ascii_string (reader_of decoder.old other.now) tag).answer
-        out.old) }
-    ensures stays { OnErr result (out.new ≡ out.old) }
-{
-    let text = text_here(decoder, other, tag)?;
-    let bytes = text.as_bytes();
-    fill(out, bytes);
-    Ok(bytes.len())
+    put_values::<u64, Vec<Bits64>>(alloc, file, page, number, out)
 }
 
 /// Puts the bytes of the text of a tag of a page into `out`, as many as fit, and returns how many
@@ -233,7 +218,5 @@ pub fn tag_text(
         (values.tag_text file.now page number out.old) }
     ensures stays { OnErr result (out.new ≡ out.old) }
 {
-    let tag = Tag::from_u16_exhaustive(number);
-    let (mut decoder, other) = open_tags(alloc, file, page)?;
-    put_text(&mut decoder, &other, tag, out)
+    put_values::<u8, String>(alloc, file, page, number, out)
 }
