@@ -125,7 +125,7 @@ class PageFacts:
             if not planned.is_by_ranges and not self._is_laid_out:
                 return _library.result_of(_library.PAGE_SAMPLES, Samples, planned.buffer, self._at)
             color = self._color
-            plan = planned.laid_out() if planned.is_by_ranges else planned.certain
+            plan = planned.laid_out(color) if planned.is_by_ranges else planned.certain
             planes = 1 if plan.planar == PLANARCONFIG.CONTIG else color.samples
             inverted = int(plan.photometric == PHOTOMETRIC.MINISWHITE)
             return Samples(plan.sample_format, color.bits, color.samples, planes, inverted)

@@ -18,8 +18,20 @@ if TYPE_CHECKING:
 
 OTHER_TYPES = "a page whose offsets or byte counts are of another type than SHORT, LONG or LONG8"
 OTHER_TYPES += ", of a file that is read by ranges"
-# An image of fewer bits has a layout, whatever its sides are.
-MOST_BITS = 1 << 63
+# An image of fewer bits has a layout, whatever its sides are; one of so many bytes has none.
+MOST_BITS, TOO_LARGE = 1 << 63, 1 << 64
+
+
+def bits_across(plan: PagePlan, color: Color, pixels: int) -> int:
+    """Returns how many bits so many pixels beside each other have in a plane of a page."""
+    samples = color.samples if plan.planar == PLANARCONFIG.CONTIG else 1
+    return pixels * samples * color.bits
+
+
+def has_split_rows(plan: PagePlan, color: Color) -> bool:
+    """Tells whether tiles lie beside each other whose rows end within a byte."""
+    split = bits_across(plan, color, plan.chunk_width) % 8
+    return bool(split) and plan.chunk_width < plan.width
 
 
 class Planned:
@@ -61,13 +73,21 @@ class Planned:
             raise UnsupportedError(OTHER_TYPES, Status.INVALID_TYPE_FOR_TAG)
         return self.plan
 
-    def laid_out(self) -> PagePlan:
-        """Returns the plan of a page that isn't in memory; raises the error of its layout.
+    def laid_out(self, color: Color) -> PagePlan:
+        """Returns the plan of a page of this color that isn't in memory; raises the error of its
+        layout.
 
-        The call gets a buffer of no bytes, so it reads none of the chunk.
+        The call gets a buffer of no bytes, so it reads none of the chunk. It lays out a chunk; what
+        the whole image would have is told before.
         """
         assert isinstance(self.file, Windows)
         plan, buffer = self.certain, ctypes.c_ubyte()
+        planes = 1 if plan.planar == PLANARCONFIG.CONTIG else color.samples
+        row = -(-bits_across(plan, color, plan.width) // 8)
+        if row * max(plan.height * planes, plan.chunk_height) >= TOO_LARGE:
+            raise TiffError(Status.LIMITS_EXCEEDED)
+        if has_split_rows(plan, color):
+            raise TiffError(Status.MISALIGNED_TILE_BOUNDARIES)
         status = self.file.run(_library.READ_PLANNED_CHUNK_IN, plan, 0, ctypes.byref(buffer), 0)
         if status != Status.INSUFFICIENT_OUTPUT_BUFFER_SIZE:
             _library.check(status)
@@ -77,14 +97,10 @@ class Planned:
         """Tells whether the samples of a page of this color surely have a layout.
 
         Else the library tells it, which takes as long as to open the page. So it does of a page
-        without a plan, of YCbCr, of rows of tiles that may end within a byte, and of a large image.
+        without a plan, of YCbCr, of rows of tiles that end within a byte, and of a large image.
         """
         plan = self.plan
-        if plan is None or plan.photometric == PHOTOMETRIC.YCBCR:
-            return False
-        side_by_side = color.samples if plan.planar == PLANARCONFIG.CONTIG else 1
-        parts_of_bytes = plan.chunk_width * side_by_side * color.bits % 8
-        if parts_of_bytes and plan.chunk_width < plan.width:
+        if plan is None or plan.photometric == PHOTOMETRIC.YCBCR or has_split_rows(plan, color):
             return False
         pixels = plan.width * max(plan.height, plan.chunk_height)
         return pixels * color.samples * color.bits < MOST_BITS

@@ -27,7 +27,6 @@ WRITTEN = {
 }
 # A chunk is read into so many bytes more than it may have, and into fewer.
 MORE, CHANGES = 64, 40
-# The first chunk and how many: none, chunks that are there or not, more than have numbers.
 # What a page of 24 by 16 pixels has, in two tiles or in other ones, and the status of its layout.
 FACTS = {256: 24, 257: 16, 258: 8, 259: 1, 262: 1, 277: 1, 284: 1, 322: 12, 323: 16}
 LARGE = 1 << 31
@@ -50,6 +49,7 @@ LAYOUTS: dict[str, tuple[dict[int, int], int]] = {
         {256: LARGE, 257: LARGE, 277: 8, 284: 2, 322: LARGE, 323: LARGE}, Status.LIMITS_EXCEEDED
     ),
 }
+# The first chunk and how many: none, chunks that are there or not, more than have numbers.
 RUNS = [(0, 0), (0, 1), (0, 4), (1, 3), (3, 9), (39, 0), (1, 2**32 - 1), (2**32 - 1, 0)]
 
 
@@ -164,7 +164,12 @@ def assert_told_the_same(file: bytes) -> list[int]:
 @pytest.mark.parametrize("name", LAYOUTS)
 def test_a_page_has_the_layout_that_the_library_tells(name: str) -> None:
     facts, status = LAYOUTS[name]
-    assert assert_told_the_same(tiled_file({**FACTS, **facts})) == [status]
+    file = tiled_file({**FACTS, **facts})
+    assert assert_told_the_same(file) == [status]
+    with mt.TiffFile(io.BytesIO(file), ranges=True) as by_ranges:
+        page, place = by_ranges.pages[0], by_ranges.pages[0]._at
+        laid = told(lambda: _library.result_of(_library.PAGE_SAMPLES, Samples, file, place))
+        assert told(lambda: page._samples) == laid
 
 
 def assert_read_the_same(file: bytes, place: int, size: int) -> int:
