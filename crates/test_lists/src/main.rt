@@ -1,5 +1,6 @@
-//! Makes the decoder calls and runs the writer jobs that standard input lists, and prints each line
-//! with its reply. Or compares the replies of the named lists with the replies in those lists.
+//! Makes the decoder calls, runs the writer jobs and makes the calls of the library that standard
+//! input lists, and prints each line with its reply. Or compares the replies of the named lists with
+//! the replies in those lists.
 #![tactic(auto)]
 
 mod asked;
@@ -9,9 +10,13 @@ mod cuts;
 mod expected;
 mod failure;
 mod file_line;
+mod images;
 mod job_lines;
 mod job_list;
+mod library;
 mod manner;
+mod numbers;
+mod ranges;
 mod reader;
 mod record;
 mod script;

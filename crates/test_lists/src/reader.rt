@@ -1,5 +1,6 @@
 //! A decoder of a file, and the replies to its calls as text.
 
+use crate::library::{library_text, library_text_on};
 use crate::source::ScriptedSource;
 use std::alloc::{AllocError, Global};
 use std::boxed::Box;
@@ -139,6 +140,14 @@ impl Reader {
         match call_of(self.alloc, words)? {
             Some(call) => self.make(&call),
             None => String::from_str(self.alloc, "no such call"),
+        }
+    }
+
+    /// Makes the calls of the library with this name, some of which need an open file.
+    pub fn library(&mut self, name: &str) -> Result<String, AllocError> {
+        match &mut self.decoder {
+            Some(decoder) => library_text_on(self.alloc, decoder, name),
+            None => library_text(self.alloc, name),
         }
     }
 

@@ -3,6 +3,7 @@
 use crate::call_count::CallCount;
 use crate::cuts::cuts_text;
 use crate::file_line::{File, file_of};
+use crate::images::images_text;
 use crate::reader::Reader;
 use crate::script::Script;
 use crate::sums::Sums;
@@ -35,9 +36,11 @@ pub fn is_comment(line: &str) -> bool {
 const WITHOUT_FAILURES: &str = "without failures";
 
 // The beginnings of lines that aren't calls.
-const OTHER_LINES: [&str; 8] = [
+const OTHER_LINES: [&str; 10] = [
     "file ",
     "cuts ",
+    "images ",
+    "library ",
     "lists ",
     "jobs",
     "again",
@@ -172,7 +175,7 @@ impl Session {
         }
     }
 
-    // Handles a line that opens a file, shows written bytes, or makes a call.
+    // Handles a line that opens a file, shows written bytes, writes images, or makes calls.
     fn call_line(
         &mut self,
         rt: &(impl Files + AllocGlobal),
@@ -183,6 +186,12 @@ impl Session {
         }
         if let Some(words) = line.strip_prefix("cuts ") {
             return self.cut_words(rt, words);
+        }
+        if let Some(words) = line.strip_prefix("images ") {
+            return images_text(rt.alloc(), words);
+        }
+        if let Some(name) = line.strip_prefix("library ") {
+            return self.reader.library(name);
         }
         match self.written_line(line)? {
             Some(reply) => Ok(reply),

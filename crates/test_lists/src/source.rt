@@ -39,6 +39,12 @@ impl ScriptedSource {
         })
     }
 
+    /// The source of these bytes, which gives all that it is asked for and doesn't fail.
+    pub fn of_bytes(bytes: Vec<u8>) -> Result<Self, AllocError> {
+        let reads = CallCount::new(*bytes.allocator())?;
+        ScriptedSource::new(bytes, false, Failure::Never, reads)
+    }
+
     /// The bytes that the source was asked for so far.
     pub fn asked_text(&self, alloc: Global) -> Result<String, AllocError> {
         self.asked.text(alloc)
