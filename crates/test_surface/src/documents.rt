@@ -2,7 +2,7 @@
 //! `docs/definitions/quote --check` compares them.
 
 use crate::report::Report;
-use std::alloc::Global;
+use std::alloc::{AllocError, Global};
 use std::{env, fs, io};
 use tiff::TiffResult;
 use tiff::decoder::{Decoder, DecodingResult};
@@ -11,7 +11,7 @@ use tiff::encoder::script::{ImageEnd, ImageJob, Job, JobReply, JobSamples, run_j
 use tiff::encoder::{Compression, TiffEncoder, TiffKindStandard};
 use tiff::io::{MemorySink, MemorySource, Sink, Source};
 use tiff::tags::Tag;
-use tiff_pages::pages::{PageList, pages};
+use tiff_pages::pages::{PageItem, PageList, pages};
 
 // The samples of a file's first page.
 fn samples(alloc: Global, file: Vec<u8>) -> TiffResult<DecodingResult> {
@@ -37,18 +37,20 @@ fn print_lengths(rt: HostRuntime) -> io::Result<()> {
     Ok(())
 }
 
+// The line of a page of a file.
+fn page_line(alloc: Global, item: &PageItem) -> Result<String, AllocError> {
+    match &item.page {
+        Ok(facts) => format!(in alloc; "{}: {} by {}", item.place.0, facts.width, facts.height),
+        Err(error) => format!(in alloc; "{}: {error}", item.place.0),
+    }
+}
+
 // A line for each page of a file.
 fn page_lines<R: Source>(alloc: Global, mut decoder: Decoder<R>) -> TiffResult<Vec<String>> {
     let mut lines = Vec::new(alloc);
     let PageList { pages, end } = pages(&mut decoder)?;
     for item in pages.iter() {
-        lines.push(match &item.page {
-            Ok(facts) => format!(in alloc;
-                "{}: {} by {}",
-                item.place.0, facts.width, facts.height
-            )?,
-            Err(error) => format!(in alloc; "{}: {error}", item.place.0)?,
-        })?;
+        lines.push(page_line(alloc, item)?)?;
     }
     if let Some(error) = end {
         lines.push(format!(in alloc; "{error}")?)?;

@@ -111,13 +111,19 @@ fn add_shown<R: Source>(report: &mut Report, decoder: &mut Decoder<R>) -> TiffRe
     Ok(())
 }
 
-/// Adds the lines of a directory's fields.
-pub fn add_lines(report: &mut Report) -> TiffResult<()> {
+// Adds the lines of the fields of a page and of a directory.
+fn add_page_lines(report: &mut Report) -> TiffResult<()> {
     let directory = directory(report.alloc())?;
     let page = Vec::from_slice(report.alloc(), &PAGE)?;
     let mut decoder = Decoder::new(report.alloc(), MemorySource::new(page))?;
     report.line("Decoder::inner", decoder.inner());
     add_page(report, &mut decoder, &directory);
+    Ok(())
+}
+
+/// Adds the lines of a directory's fields.
+pub fn add_lines(report: &mut Report) -> TiffResult<()> {
+    add_page_lines(report)?;
     let mut file = Vec::from_slice(report.alloc(), &PAGE)?;
     file.extend_from_slice(&SHOWN)?;
     let mut decoder = Decoder::new(report.alloc(), MemorySource::new(file))?;

@@ -110,8 +110,8 @@ fn number_at(alloc: Global, bytes: &[u8], offset: u64) -> TiffResult<Bits32> {
     reader.read_f32()
 }
 
-/// Adds the lines of what docs/MIGRATING.md shows.
-pub fn add_lines(report: &mut Report) -> TiffResult<()> {
+// Adds the lines of a page that is written and read.
+fn add_page(report: &mut Report) -> TiffResult<()> {
     let alloc = report.alloc();
     let file = write_file(alloc)?;
     let mut source = MemorySource::new(file);
@@ -119,6 +119,12 @@ pub fn add_lines(report: &mut Report) -> TiffResult<()> {
     report.line("limited", read_limited(alloc, &mut source));
     let page = Decoder::new(alloc, source)?.read_image()?;
     report.line("samples", sample_count(&page));
+    Ok(())
+}
+
+// Adds the lines of bytes that are packed and unpacked.
+fn add_packed(report: &mut Report) -> TiffResult<()> {
+    let alloc = report.alloc();
     report.line("packed", pack(alloc, &[7; 9]));
     let packed = Vec::from_slice(alloc, &[0xf8, 7])?;
     let mut row = [0; 9];
@@ -126,4 +132,10 @@ pub fn add_lines(report: &mut Report) -> TiffResult<()> {
     report.line("unpacked row", row);
     report.line("number", number_at(alloc, &[0, 0x3f, 0x80, 0, 0], 1));
     Ok(())
+}
+
+/// Adds the lines of what docs/MIGRATING.md shows.
+pub fn add_lines(report: &mut Report) -> TiffResult<()> {
+    add_page(report)?;
+    add_packed(report)
 }
