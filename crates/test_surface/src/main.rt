@@ -1,12 +1,14 @@
 //! Names each public name of `tiff` by its path, makes public calls that no list of calls or of
-//! jobs makes, and the calls for C, and prints each with its result. The program depends on `tiff`
-//! and, for the calls for C, on `tiff_ffi`, so every other name that it uses is reached from
-//! `tiff`; but `documents` has the lists of pages of `tiff_pages`.
+//! jobs makes, the calls for C, and command lines of `tiffpage`, and prints each with its result.
+//! The program depends on `tiff`, for the calls for C on `tiff_ffi`, and for the command lines on
+//! `tiffpage_lib`, so every other name that it uses is reached from `tiff`; but `documents` has the
+//! lists of pages of `tiff_pages`.
 #![tactic(auto)]
 
 mod borrowed;
 mod color;
 mod colortype;
+mod commands;
 mod directories;
 mod directory;
 mod documents;
@@ -48,7 +50,8 @@ fn add_files(report: &mut Report) -> TiffResult<()> {
     directories::add_lines(report)?;
     borrowed::add_lines(report)?;
     documents::add_lines(report)?;
-    migrating::add_lines(report)
+    migrating::add_lines(report)?;
+    commands::add_lines(report)
 }
 
 fn main(rt: HostRuntime) -> std::io::Result<()> {

@@ -33,6 +33,13 @@ impl Report {
         self.lost = self.lost || written.is_err();
     }
 
+    /// Adds a command line, what it prints, which ends in a newline if it isn't empty, and its
+    /// status.
+    pub fn command(&mut self, line: &str, printed: &str, status: u8) {
+        let written = writeln!(self.text, "$ {line}\n{printed}status {status}");
+        self.lost = self.lost || written.is_err();
+    }
+
     /// The lines, if there was memory for each; else `None`.
     pub fn into_text(self) -> Option<String> {
         let Report {

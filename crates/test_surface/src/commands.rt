@@ -1,10 +1,10 @@
-//! What the program `tiffpage` does, over files in memory.
+//! Command lines of the program `tiffpage`, over files in memory.
 
 ghost use Rattle.std.specs.Prelude.{◌≡◌, IfOk, length};
 
+use crate::report::Report;
 use std::alloc::Global;
 use std::marker::Brand;
-use std::test::Fail;
 use tiff::io::IoKind;
 use tiff::{TiffError, TiffResult};
 use tiffpage_lib::files::Files;
@@ -133,117 +133,38 @@ const CHANGED: [(&str, &str, usize, u8); 5] = [
     (HOLED, "ONE", 198, 4), // the link, to 67108864
 ];
 
-// What standard input has, and command lines, each with what it prints, standard error behind `2> `,
-// and its status. `cmp` compares two files. BYTE has the byte 7, IN three bytes.
-const ROWS: [(&str, &str); 3] = [
+// What standard input has, and command lines. `cmp` compares two files. BYTE has the byte 7, IN three
+// bytes.
+const COMMANDS: [(&str, &str); 3] = [
     (
         "",
         "\
-$ tiffpage
-usage: tiffpage gray|raw|tags|list ..
-status 0
-$ tiffpage gray OUT 1 1 BYTE
-status 0
-$ cmp OUT ONE
-status 0
-$ tiffpage raw OUT 0 BACK
-status 0
-$ cmp BACK BYTE
-status 0
-$ tiffpage gray OUT 0 5 IN
-2> error: format error: invalid dimensions: 0x5
-status 1
-$ tiffpage gray OUT 2 2 IN
-2> error: invalid data
-status 1
-$ tiffpage tags ONE 0
-256 4 1 01000000
-257 4 1 01000000
-258 3 1 0800
-259 3 1 0100
-262 3 1 0100
-273 4 1 18000000
-277 3 1 0100
-278 4 1 40420f00
-279 4 1 01000000
-282 5 1 0100000001000000
-283 5 1 0100000001000000
-296 3 1 0100
-317 3 1 0100
-339 3 1 0100
-status 0
-$ tiffpage tags EMPTY 0
-256 4 1 01000000
-257 4 1 01000000
-258 3 1 0800
-259 3 1 0100
-262 3 1 0100
-273 4 1 18000000
-277 3 1 0100
-278 4 1 40420f00
-279 4 1 01000000
-282 5 1 0100000001000000
-283 5 0 -
-296 3 1 0100
-317 3 1 0100
-339 3 1 0100
-status 0
-$ tiffpage tags PAST 0
-2> error: unexpected end of file
-status 1
-$ tiffpage list ONE
-0 25 1x1 Gray8 1 strip 1
-status 0
-$ tiffpage list LINKED
-0 25 1x1 Gray8 1 strip 1
-1 199 error: format error: required tag `ImageWidth` not found
-status 0
-$ tiffpage list CYCLE
-0 25 1x1 Gray8 1 strip 1
-2> error: format error: file contained a cycle in the list of IFDs
-status 1
-$ tiffpage directories HOLED
-25 - 14 1x1 Gray8 1 strip 1
-67108864 - 0 error: format error: required tag `ImageWidth` not found
-status 0
-$ tiffpage check HOLED
-0 25 ok 1 00080008
-1 67108864 error: format error: required tag `ImageWidth` not found
-status 1
-$ tiffpage check ONE
-0 25 ok 1 00080008
-status 0
-$ tiffpage check LOCKED
-2> error: cannot read LOCKED
-status 1
-$ tiffpage tags ONE
-2> usage: tiffpage gray|raw|tags|list ..
-status 2
-$ tiffpage gray FULL 0 -5 NONE
-2> usage: tiffpage gray|raw|tags|list ..
-status 2
-$ tiffpage gray FULL 0 5 NONE
-2> error: cannot read NONE
-status 1
-$ tiffpage gray FULL 0 5 IN
-2> error: format error: invalid dimensions: 0x5
-status 1
-$ tiffpage gray FULL 1 1 IN
-2> error: cannot write FULL
-status 1
-$ tiffpage raw NONE 0x1 FULL
-2> usage: tiffpage gray|raw|tags|list ..
-status 2
-$ tiffpage raw LOCKED 1 FULL
-2> error: cannot read LOCKED
-status 1
-$ tiffpage raw ONE 1 FULL
-2> error: format error: image file directory not found
-status 1
-$ tiffpage raw ONE 0 FULL
-2> error: cannot write FULL
-status 1
-",
+tiffpage
+tiffpage gray OUT 1 1 BYTE
+cmp OUT ONE
+tiffpage raw OUT 0 BACK
+cmp BACK BYTE
+tiffpage gray OUT 0 5 IN
+tiffpage gray OUT 2 2 IN
+tiffpage tags ONE 0
+tiffpage tags EMPTY 0
+tiffpage tags PAST 0
+tiffpage list ONE
+tiffpage list LINKED
+tiffpage list CYCLE
+tiffpage directories HOLED
+tiffpage check HOLED
+tiffpage check ONE
+tiffpage check LOCKED
+tiffpage tags ONE
+tiffpage gray FULL 0 -5 NONE
+tiffpage gray FULL 0 5 NONE
+tiffpage gray FULL 0 5 IN
+tiffpage gray FULL 1 1 IN
+tiffpage raw NONE 0x1 FULL
+tiffpage raw LOCKED 1 FULL
+tiffpage raw ONE 1 FULL
+tiffpage raw ONE 0 FULL",
     ),
     (
         "\
@@ -252,15 +173,8 @@ write_data 7
 image Gray8 1 1
 write_data 8",
         "\
-$ tiffpage jobs OUT
-nothing
-nothing
-status 0
-$ tiffpage list OUT
-0 25 1x1 Gray8 1 strip 1
-1 217 1x1 Gray8 1 strip 1
-status 0
-",
+tiffpage jobs OUT
+tiffpage list OUT",
     ),
     (
         "\
@@ -268,15 +182,18 @@ image Gray8 20 20
 tiles 16 16
 write_data 0*400",
         "\
-$ tiffpage jobs OUT
-nothing
-nothing
-status 0
-$ tiffpage list OUT
-0 1080 20x20 Gray8 1 tile 4
-status 0
-",
+tiffpage jobs OUT
+tiffpage list OUT",
     ),
+];
+
+// Command lines whose output or error doesn't fit into five bytes.
+const LONG_OUTPUTS: [&str; 5] = [
+    "tiffpage",
+    "tiffpage --version",
+    "tiffpage tags ONE 0",
+    "tiffpage tags ONE",
+    "tiffpage tags NONE 0",
 ];
 
 // The words of a command line behind the name of the program.
@@ -300,11 +217,13 @@ fn are_same(files: &mut MemoryFiles, names: &str) -> TiffResult<bool> {
     Ok(first.as_slice() == second.as_slice())
 }
 
-// What a command line prints and returns.
-fn answer(alloc: Global, files: &mut MemoryFiles, line: &str) -> TiffResult<String> {
+// Adds what a command line prints, standard error behind `2> `, and its status.
+fn add_command(report: &mut Report, files: &mut MemoryFiles, line: &str) -> TiffResult<()> {
+    let alloc = report.alloc();
     if let Some(names) = line.strip_prefix("cmp ") {
         let status = u8::from(!are_same(files, names)?);
-        return Ok(format!(in alloc; "status {status}\n")?);
+        report.command(line, "", status);
+        return Ok(());
     }
     let words = words_of(alloc, line)?;
     let mut out = Vec::new(alloc);
@@ -312,7 +231,8 @@ fn answer(alloc: Global, files: &mut MemoryFiles, line: &str) -> TiffResult<Stri
     let status = run::<_, _, _, Brand>(alloc, words.as_slice(), files, &mut out, &mut err);
     let (out, err) = (String::from_utf8(out)?, String::from_utf8(err)?);
     let mark = if err.is_empty() { "" } else { "2> " };
-    Ok(format!(in alloc; "{out}{mark}{err}status {status}\n")?)
+    report.command(line, &format!(in alloc; "{out}{mark}{err}")?, status);
+    Ok(())
 }
 
 // The files that the command lines begin with.
@@ -338,42 +258,27 @@ fn given(alloc: Global, stdin: &str) -> TiffResult<MemoryFiles> {
     Ok(files)
 }
 
-#[test]
-fn command_lines_are_answered(rt: HostRuntime) -> Result<(), Fail> {
-    for (stdin, rows) in ROWS {
-        let mut files = given(rt.alloc(), stdin)?;
-        for row in rows.split("$ ") {
-            if let Some((line, wanted)) = row.split_once('\n') {
-                let told = answer(rt.alloc(), &mut files, line)?;
-                assert_eq!(rt; told.as_str(), wanted, "{line}");
-            }
-        }
+// Adds command lines with streams that take five bytes each.
+fn add_full_streams(report: &mut Report) -> TiffResult<()> {
+    let alloc = report.alloc();
+    let mut files = given(alloc, "")?;
+    for line in LONG_OUTPUTS {
+        let words = words_of(alloc, line)?;
+        let (mut out_room, mut err_room) = ([0u8; 5], [0u8; 5]);
+        let (mut out, mut err) = (out_room.as_mut_slice(), err_room.as_mut_slice());
+        let status = run::<_, _, _, Brand>(alloc, words.as_slice(), &mut files, &mut out, &mut err);
+        report.line(line, (status, out_room, err_room));
     }
     Ok(())
 }
 
-// Streams that take five bytes each.
-#[test]
-fn streams_that_are_full_are_an_error(rt: HostRuntime) -> Result<(), Fail> {
-    let mut files = given(rt.alloc(), "")?;
-    for line in [
-        "",
-        "tiffpage --version",
-        "tiffpage tags ONE 0",
-        "tiffpage tags ONE",
-        "tiffpage tags NONE 0",
-    ] {
-        let words = words_of(rt.alloc(), line)?;
-        let (mut out_room, mut err_room) = ([0u8; 5], [0u8; 5]);
-        let (mut out, mut err) = (out_room.as_mut_slice(), err_room.as_mut_slice());
-        let status = run::<_, _, _, Brand>(
-            rt.alloc(),
-            words.as_slice(),
-            &mut files,
-            &mut out,
-            &mut err,
-        );
-        assert_eq!(rt; status, 1);
+/// Adds the command lines, with what each prints, and its status.
+pub fn add_lines(report: &mut Report) -> TiffResult<()> {
+    for (stdin, lines) in COMMANDS {
+        let mut files = given(report.alloc(), stdin)?;
+        for line in lines.split('\n') {
+            add_command(report, &mut files, line)?;
+        }
     }
-    Ok(())
+    add_full_streams(report)
 }

@@ -1,5 +1,5 @@
 use Rattle.std.proofs.Common.{◌≡◌, length}
-use Rattle.test_program.proofs.program.filled.Given as goal
+use Rattle.test_surface.proofs.commands.filled.Given as goal
 
 -- there is a byte for each turn
 abbrev pub invariant-loop-i : goal.invariant-loop-i
