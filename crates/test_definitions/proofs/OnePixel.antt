@@ -28,13 +28,13 @@ use Rattle.tiff_encode.specs.Held.{image_with}
 use Rattle.tiff_encode.specs.Open.{RecordsImage, HoldsEnded}
 use Rattle.tiff_encode.specs.Stored.{unpacked_chunk}
 use Rattle.tiff_encode.proofs.WriteOps.{ops_stand}
-use Rattle.tiff_encode.proofs.Header.{header_stands}
+use Rattle.tiff_encode.specs.lemmas.Header.{header_stands}
 use Rattle.tiff_encode.proofs.Shown.Images.{images_show_by}
 use Rattle.tiff_encode.proofs.Open.Begun.{begins_open}
 use Rattle.tiff_encode.proofs.Open.Chunks.{chunks_keep_open}
 use Rattle.tiff_encode.proofs.Open.Ends.{ends_held, grown_ended, ended_shown_by}
 use Rattle.tiff_encode.proofs.PageTold.Page.{page_told}
-use Rattle.tiff_encode.proofs.Slices.{ok_inj}
+use Rattle.tiff_encode.specs.lemmas.Slices.{ok_inj}
 use Rattle.test_definitions.specs.Encode.Calls.{header, with_fields}
 use Rattle.test_definitions.specs.Encode.Causes.{new_file, gray}
 use Rattle.test_definitions.specs.Files.{gray_file}

@@ -21,3 +21,4 @@ pub use Rattle.tiff_base.specs.Field
 pub use Rattle.tiff_base.specs.Tags
 pub use Rattle.tiff_ifd.specs.TagQueries
 pub use Rattle.tiff_decode.specs.Reader
+pub mod lemmas

@@ -16,9 +16,9 @@ use Rattle.tiff_ifd.specs.IfdChainWalk as walk
 use Rattle.tiff_encode.specs.FileBytes.{offset_len}
 use Rattle.tiff_encode.specs.LongerChain.{chain_behind, last_link_at, link_behind, link_offset_at, unless_cut}
 use Rattle.tiff_encode.specs.Model.{header_link}
-use Rattle.tiff_encode.proofs.GoingOn.{number_within, some_offset}
-use Rattle.tiff_encode.proofs.LongerChain.{link_parts}
-use Rattle.tiff_encode.proofs.Slices.{ok_inj}
+use Rattle.tiff_encode.specs.lemmas.GoingOn.{number_within, some_offset}
+use Rattle.tiff_encode.specs.lemmas.LongerChain.{link_parts}
+use Rattle.tiff_encode.specs.lemmas.Slices.{ok_inj}
 use Rattle.tiff_append.specs.LastLink.{last_by, last_in}
 
 -- ---- within the file

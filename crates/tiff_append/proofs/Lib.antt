@@ -1,3 +1,2 @@
 mod LastLink
 pub mod Added
-pub mod Behind

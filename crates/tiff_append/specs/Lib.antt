@@ -3,3 +3,4 @@ pub mod GhostBytes
 pub mod Added
 pub mod Source
 pub mod Behind
+pub mod lemmas

@@ -11,7 +11,7 @@ use Rattle.std.specs.Option.{is_some}
 use Rattle.tiff_base.specs.declared.tags.«Type».TheVariants.{BYTE}
 use Rattle.std.specs.Ordering.{nat_cmp, is_eq}
 use Rattle.std.proofs.lemmas.Bool.{cases_lt, le-ltb, lt-ltb}
-use Rattle.tiff_base.proofs.Maps.{entries_of_tree}
+use Rattle.tiff_base.specs.lemmas.Maps.{entries_of_tree}
 use Rattle.tiff_base.proofs.Search.{numbers_ascend}
 use Rattle.tiff_base.specs.Directory.{fields_after}
 use Rattle.tiff_base.specs.Field.{Field, In, IsEntry}

@@ -18,3 +18,4 @@ pub mod Sparing
 pub mod Place
 pub mod Buffer
 pub mod Windows
+pub mod lemmas

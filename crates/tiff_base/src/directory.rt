@@ -196,7 +196,7 @@ impl Directory {
     }
 
     /// Returns the number of fields.
-    #[tactic(auto, using(crate::proofs::Maps::len_of_tree))]
+    #[tactic(auto, using(crate::specs::lemmas::Maps::len_of_tree))]
     pub fn len(&self) -> usize
         ensures { result ≡ map.len self.now.entries }
     {
@@ -204,7 +204,7 @@ impl Directory {
     }
 
     /// Returns whether there is no field.
-    #[tactic(auto, using(crate::proofs::Maps::len_of_tree))]
+    #[tactic(auto, using(crate::specs::lemmas::Maps::len_of_tree))]
     pub fn is_empty(&self) -> bool
         ensures { result ≡ (map.len self.now.entries == 0) }
     {
@@ -231,7 +231,7 @@ impl Directory {
     }
 
     /// Returns an iterator over the fields with their tags, in ascending tag number.
-    #[tactic(auto, using(crate::proofs::Maps::entries_of_tree))]
+    #[tactic(auto, using(crate::specs::lemmas::Maps::entries_of_tree))]
     pub fn iter(&self) -> Iter<'_>
         ensures { result ≡ map.entries self.now.entries }
     {

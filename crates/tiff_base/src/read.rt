@@ -13,7 +13,7 @@ use crate::tags::ByteOrder;
 use std::alloc::Global;
 
 // Fills the rest of `buf`, of which the first `n` bytes were read already.
-#[tactic(auto, using(crate::proofs::Bytes::next_read))]
+#[tactic(auto, using(crate::specs::lemmas::Bytes::next_read))]
 #[inline(never)]
 fn read_rest<R: Source>(source: &mut R, at: u64, buf: &mut [u8], n: usize) -> TiffResult<()>
     requires in_buffer { n ≤ length buf.old }
@@ -41,7 +41,7 @@ fn read_rest<R: Source>(source: &mut R, at: u64, buf: &mut [u8], n: usize) -> Ti
 
 /// Fills `buf` with the bytes of the source from offset `at` on. Returns `IoError(UnexpectedEof)`
 /// if the source has fewer bytes there.
-#[tactic(auto, using(crate::proofs::Bytes::next_read))]
+#[tactic(auto, using(crate::specs::lemmas::Bytes::next_read))]
 #[inline(always)]
 pub fn read_exact_at<R: Source>(source: &mut R, at: u64, buf: &mut [u8]) -> TiffResult<()>
     ensures kept { IsKept R.contents R.failures result source.old source.new }
@@ -69,7 +69,7 @@ pub fn read_exact_at<R: Source>(source: &mut R, at: u64, buf: &mut [u8]) -> Tiff
 /// the source has fewer bytes there. In that case the call allocates nothing, because it reads the
 /// last byte first. The only other errors are those of the device, and `OutOfMemory` if the bytes
 /// are there.
-#[tactic(auto, using(crate::proofs::Bytes::cut_at_last, crate::proofs::Bytes::cut_past))]
+#[tactic(auto, using(crate::specs::lemmas::Bytes::cut_at_last, crate::specs::lemmas::Bytes::cut_past))]
 pub fn read_bytes_at<R: Source>(
     alloc: Global,
     source: &mut R,

@@ -12,16 +12,16 @@ use Rattle.tiff_base.specs.Directory.{directory_at}
 use Rattle.tiff_base.specs.Field.{DirectoryRecord}
 use Rattle.tiff_base.specs.Header.{Header, header_at}
 use Rattle.tiff_base.specs.SourceAndSink.{SourceRecord}
-use Rattle.tiff_base.proofs.Common.{bind_ok}
+use Rattle.tiff_base.specs.lemmas.Common.{bind_ok}
 use Rattle.tiff_ifd.specs.TagLookup.{ok_or_fault}
 use Rattle.tiff_ifd.specs.IfdChainWalk.{ChainBegins, NextReadable, Walked, WayReadable}
 use Rattle.tiff_page.specs.Reach.{PageReadable}
-use Rattle.tiff_page.proofs.Requests.{asks_more}
+use Rattle.tiff_page.specs.lemmas.Requests.{asks_more}
 use Rattle.tiff_decode.specs.Asked.{EntryReadable, NextPageReadable, OpenReadable, SeekReadable}
 use Rattle.tiff_decode.specs.ChainPosition.{IsAt, index_behind}
 use Rattle.tiff_decode.specs.Machine.{Decoding, source_of}
 use Rattle.tiff_decode.specs.Outcome.{chain_from, chain_of, end_fault, first_directory, next_offset, not_found}
-use Rattle.tiff_decode.proofs.ChainPosition.{last_of}
+use Rattle.tiff_decode.specs.lemmas.ChainPosition.{last_of}
 
 -- the bytes that a call reads, for an equal view of the decoder
 pub asked_of : (P : Decoding → Type 0) (d old : Decoding) (e : TiffError) → d ≡ old

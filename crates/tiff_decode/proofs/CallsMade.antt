@@ -18,7 +18,7 @@ use Rattle.tiff_decode.specs.Reader.{TagsRead}
 use Rattle.tiff_decode.specs.ReplyView.{items_of}
 use Rattle.tiff_decode.specs.Step.{Step}
 use Rattle.tiff_decode.specs.Steps.{Steps, Ran}
-use Rattle.tiff_decode.proofs.NextState.{along}
+use Rattle.tiff_decode.specs.lemmas.NextState.{along}
 
 -- a decoder that is left as it was
 pub stands_here : (d : Decoding) → StandsAt d.state d d

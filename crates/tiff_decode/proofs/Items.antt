@@ -12,7 +12,7 @@ use Rattle.tiff_base.specs.Answers.{IsCause, NoneSwallowed, ◌>>=◌}
 use Rattle.tiff_base.specs.Sparing.{IsWithinLimits}
 use Rattle.tiff_base.specs.Directory.{fields_after}
 use Rattle.tiff_base.specs.Field.{Field, DirectoryRecord}
-use Rattle.tiff_base.proofs.After.{after_first, after_head}
+use Rattle.tiff_base.specs.lemmas.After.{after_first, after_head}
 use Rattle.tiff_ifd.specs.PlainValue.{PlainValue}
 use Rattle.tiff_ifd.specs.declared.value.Value.{Value}
 use Rattle.tiff_decode.specs.Items.{fields_left, item_of, items_left, NextItem}

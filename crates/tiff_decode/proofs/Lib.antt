@@ -1,13 +1,10 @@
 pub mod Opening
-pub mod NextState
 pub mod Required
 pub mod Numbers
-pub mod ChainPosition
 pub mod Asked
 pub mod Items
 pub mod TagList
 pub mod Samples
-pub mod Pieces
 pub mod CallsMade
 pub mod Wraps
 pub mod SampleBytes

@@ -6,7 +6,7 @@ use Rattle.tiff_base.specs.Answers.{◌>>=◌, IsCause}
 use Rattle.tiff_base.specs.Directory.{directory_at}
 use Rattle.tiff_base.specs.Field.{DirectoryRecord}
 use Rattle.tiff_base.specs.Header.{Header, header_at}
-use Rattle.tiff_base.proofs.Causes.{cause_along}
+use Rattle.tiff_base.specs.lemmas.Causes.{cause_along}
 use Rattle.tiff_ifd.specs.TagLookup.{ok_or_fault}
 use Rattle.tiff_page.specs.Page.{PageRecord}
 use Rattle.tiff_decode.specs.DefaultLimits.{default_limits}

@@ -7,12 +7,12 @@ use Rattle.tiff_base.specs.declared.error.TiffFormatError.TheVariants.{RequiredT
 use Rattle.tiff_base.specs.declared.tags.Tag.{Tag}
 use Rattle.tiff_base.specs.Answers.{IsCause, ◌>>=◌}
 use Rattle.tiff_base.specs.Sparing.{IsFoundWithin}
-use Rattle.tiff_base.proofs.Causes.{cause_along}
+use Rattle.tiff_base.specs.lemmas.Causes.{cause_along}
 use Rattle.tiff_ifd.specs.PlainValue.{PlainValue}
 use Rattle.tiff_ifd.specs.Fitted.{fitted_numbers}
 use Rattle.tiff_ifd.specs.Into.{into_u64_vec}
 use Rattle.tiff_ifd.specs.TagQueries.{find_unsigned_vec}
-use Rattle.tiff_page.proofs.PassedChecks.{number_found, required_found}
+use Rattle.tiff_page.specs.lemmas.PassedChecks.{number_found, required_found}
 use Rattle.tiff_decode.specs.Machine.{Decoding}
 use Rattle.tiff_decode.specs.Outcome.{find_tag_unsigned_vec, page_tags, WantsTag}
 use Rattle.tiff_decode.specs.Reader.{FirstUnfit}

@@ -5,7 +5,7 @@ use Rattle.tiff_base.specs.Number.{le}
 use Rattle.tiff_base.specs.SourceAndSink.{AreOctets}
 use Rattle.tiff_page.specs.NumberBytes.{all_bytes}
 use Rattle.tiff_page.specs.Row.{IsSize}
-use Rattle.tiff_page.proofs.Rows.{by_size}
+use Rattle.tiff_page.specs.lemmas.Rows.{by_size}
 
 -- All bytes of a number are its lowest ones, where the last is an octet.
 abbrev Lowest : ℕ → ℕ → Type 0

@@ -1,6 +1,6 @@
 -- The bytes of a tag's values, in a slice.
 use Rattle.std.proofs.Common.{◌≡◌, ℕ, List, ◌++◌, length, drop, Option, Some, Result, Ok, Err, ap, ◌∙◌}
-use Rattle.tiff_base.proofs.Causes.{cause_along}
+use Rattle.tiff_base.specs.lemmas.Causes.{cause_along}
 use Rattle.tiff_base.specs.Answers.{IsCause, ◌>>=◌}
 use Rattle.tiff_base.specs.Field.{Field}
 use Rattle.tiff_base.specs.declared.error.TiffError.{TiffError}

@@ -14,3 +14,4 @@ pub mod Reader
 pub mod ChainPosition
 pub mod Items
 pub mod Opened
+pub mod lemmas

@@ -135,7 +135,7 @@ impl CurrentDirectory {
 
     // The position past the end of the chain, of which all offsets are entered. It is at the last
     // offset where another directory followed the decoder's position before, else at no offset.
-    #[tactic(auto, using(crate::proofs::ChainPosition::last_pointed, crate::proofs::ChainPosition::stands_last))]
+    #[tactic(auto, using(crate::specs::lemmas::ChainPosition::last_pointed, crate::specs::lemmas::ChainPosition::stands_last))]
     fn past(walk: &IfdChainWalk, was_open: bool) -> Self
         ensures pointer { result.pointer ≡ (if was_open then option_map (λ offset. record { 0 = offset })
             (last_or None walk.now.offsets) else None) }
@@ -168,7 +168,7 @@ impl CurrentDirectory {
     }
 
     // The index of the directory that follows the position, where one follows it.
-    #[tactic(auto, using(crate::proofs::ChainPosition::within))]
+    #[tactic(auto, using(crate::specs::lemmas::ChainPosition::within))]
     fn following(&self, walk: &IfdChainWalk) -> usize
         requires stands { IsAt walk.now.offsets self.now.pointer self.now.at }
         ensures number { result ≡ index_behind self.now.pointer self.now.at }

@@ -112,7 +112,7 @@ impl<R: Source> Decoder<R> {
     }
 
     // Reads the value of a tag of the page's directory, or of another directory.
-    #[tactic(auto, using(tiff_ifd::proofs::Within::look_within), unfolding(crate::specs::Outcome::find_tag, tiff_ifd::specs::TagLookup::look_in))]
+    #[tactic(auto, using(tiff_ifd::specs::lemmas::Within::look_within), unfolding(crate::specs::Outcome::find_tag, tiff_ifd::specs::TagLookup::look_in))]
     fn value_in(&mut self, other: Option<&Directory>, tag: Tag) -> TiffResult<Option<Value>>
         ensures read { TagsRead
             (outcome.WantsTag (reader_of self.old (option_map (λ d. d.now) other.entry)) tag)

@@ -22,7 +22,7 @@ use Rattle.tiff_encode.specs.Machine.{FileState, OpenDirectory, WriteCall, gives
 use Rattle.tiff_encode.specs.Causes.{is_past, end_of, finish_cause}
 use Rattle.tiff_encode.specs.Calls.{Offsets, links_to, chains, offsets_of, finish}
 use Rattle.tiff_encode.specs.CallLaws.{PlacedFits, FinishFits}
-use Rattle.tiff_encode.proofs.Slices.{number-le}
+use Rattle.tiff_encode.specs.lemmas.Slices.{number-le}
 use Rattle.tiff_encode.proofs.WriteOps.{fits_joined}
 use Rattle.tiff_encode.proofs.Runs.{near}
 use Rattle.std.specs.FinMap.{len}

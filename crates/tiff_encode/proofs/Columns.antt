@@ -15,7 +15,7 @@ use Rattle.tiff_page.specs.Counts.{parts}
 use Rattle.tiff_encode.specs.Machine.{OpenImage}
 use Rattle.tiff_encode.specs.Drawn.{IsSide, IsForm, HoldsPixels}
 use Rattle.tiff_encode.specs.Chunks.{pixels_across}
-use Rattle.tiff_encode.proofs.ImageState.{one_part}
+use Rattle.tiff_encode.specs.lemmas.ImageState.{one_part}
 
 -- a number of each field type has at least one byte
 pub type_some : (type : «Type») → 0 < type_size type

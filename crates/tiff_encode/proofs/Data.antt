@@ -7,9 +7,7 @@ pub mod Open
 pub mod Shows
 pub mod Begun
 pub mod Image
-pub mod Offsets
 pub mod Pieces
-pub mod Cut
 pub mod Written
 pub mod Cutting
 pub mod Strips

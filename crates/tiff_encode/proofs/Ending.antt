@@ -24,7 +24,7 @@ use Rattle.tiff_encode.specs.Calls.{Offsets, offsets_of, links_to, chain_after, 
 use Rattle.tiff_encode.specs.Ends.{EndsAsDefined, LinkWriteFailed, Ends}
 use Rattle.tiff_encode.specs.Placing.{parent_test, end_test}
 use Rattle.tiff_encode.proofs.Calling.{stopped_cause, fresh_cause, refused, uncaused, wanting, cut_off}
-use Rattle.tiff_encode.proofs.Slices.{length-le}
+use Rattle.tiff_encode.specs.lemmas.Slices.{length-le}
 
 -- ---- the length of a directory
 

@@ -22,7 +22,7 @@ use Rattle.tiff_base.specs.Number.{number, le}
 use Rattle.tiff_base.specs.Directory.{offset_width, entry_len, value_of, field_of, entry_of, entries_from, last_of_each}
 use Rattle.tiff_encode.specs.FileBytes.{offset_len, entry_bytes}
 use Rattle.tiff_encode.specs.Model.{In}
-use Rattle.tiff_encode.proofs.Slices.{exact_mid, is_exact, length-le, number-le, is_offset_width}
+use Rattle.tiff_encode.specs.lemmas.Slices.{exact_mid, is_exact, length-le, number-le, is_offset_width}
 
 -- ---- the map of a sorted list
 

@@ -29,10 +29,10 @@ use Rattle.tiff_encode.specs.FileBytes.{offset_len, count_len}
 use Rattle.tiff_encode.specs.Model.{IsClear}
 use Rattle.tiff_encode.specs.Shows.{page_at}
 use Rattle.tiff_encode.specs.FormerPages.{AreValuesClear, DirectoryStays, FormerPagesStay}
-use Rattle.tiff_encode.proofs.Slices.{ok_bind, ok_inj, exact, length_put, number_kept}
-use Rattle.tiff_encode.proofs.Kept.{Keeps, keeps, body_kept, directory_from}
-use Rattle.tiff_encode.proofs.GoingOn.{some_offset, number_within, bytes_stay}
-use Rattle.tiff_encode.proofs.LongerChain.{directory_split}
+use Rattle.tiff_encode.specs.lemmas.Slices.{ok_bind, ok_inj, exact, length_put, number_kept}
+use Rattle.tiff_encode.specs.lemmas.Kept.{Keeps, keeps, body_kept, directory_from}
+use Rattle.tiff_encode.specs.lemmas.GoingOn.{some_offset, number_within, bytes_stay}
+use Rattle.tiff_encode.specs.lemmas.LongerChain.{directory_split}
 
 -- ---- values
 

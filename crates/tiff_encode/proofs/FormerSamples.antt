@@ -16,8 +16,8 @@ use Rattle.tiff_page.specs.Rect.{chunk_of_pixel}
 use Rattle.tiff_encode.specs.Appending.{Continues}
 use Rattle.tiff_encode.specs.FileBytes.{offset_len}
 use Rattle.tiff_encode.specs.FormerPages.{AreBytesClear, IsRowClear, FormerSamplesStay}
-use Rattle.tiff_encode.proofs.Slices.{exact, is_exact, length_put}
-use Rattle.tiff_encode.proofs.GoingOn.{bytes_stay}
+use Rattle.tiff_encode.specs.lemmas.Slices.{exact, is_exact, length_put}
+use Rattle.tiff_encode.specs.lemmas.GoingOn.{bytes_stay}
 
 not_less : (a b : ℕ) → b ≤ a → nat_lt a b ≡ false
 not_less a b h = grind (arith, nat_tests)

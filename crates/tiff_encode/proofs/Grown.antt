@@ -18,9 +18,9 @@ use Rattle.tiff_encode.specs.FileBytes.{offset_len, count_len, entry_bytes, dire
 use Rattle.tiff_encode.specs.Model.{BytesAreApart, In, FinishedDirectory, SuppliedField, ByteRegion, Model, header_link, own_link, IsLink, IsClear, body_len, whole_len, IsApart, FileContains, with_directory, with_supplied}
 use Rattle.tiff_encode.specs.Laws.{GrownByRegion, GrownByInline, GrownByPlaced, GrownByListing, FinishStep}
 use Rattle.tiff_encode.specs.WriteOps.{standing_fields}
-use Rattle.tiff_encode.proofs.Slices.{is_exact, exact_end, length-le, number_mid, is_offset_width, is_count_width}
-use Rattle.tiff_encode.proofs.Kept.{directory_from, directory_within, kept_by_appending, kept_by_patching}
-use Rattle.tiff_encode.proofs.Header.{zero_fits}
+use Rattle.tiff_encode.specs.lemmas.Slices.{is_exact, exact_end, length-le, number_mid, is_offset_width, is_count_width}
+use Rattle.tiff_encode.specs.lemmas.Kept.{directory_from, directory_within, kept_by_appending, kept_by_patching}
+use Rattle.tiff_encode.specs.lemmas.Header.{zero_fits}
 use Rattle.tiff_encode.proofs.Entries.{AllWritable, length-entries, entries_read, last_of_entries}
 use Rattle.tiff_encode.proofs.FileAndModel.{len_standing, bytes_standing, standing_writable}
 

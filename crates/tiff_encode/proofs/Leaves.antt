@@ -6,9 +6,9 @@ use Rattle.tiff_value.specs.Written.{Written, new_writer, writer_after}
 use Rattle.tiff_encode.specs.FileBytes.{offset_len, header_mark, header_bytes}
 use Rattle.tiff_encode.specs.Model.{FileContains, header_link, header_model}
 use Rattle.tiff_encode.specs.Shows.{LeavesHeader}
-use Rattle.tiff_encode.proofs.Slices.{length-le}
-use Rattle.tiff_encode.proofs.Header.{header_stands}
-use Rattle.tiff_value.proofs.Put.{put_end}
+use Rattle.tiff_encode.specs.lemmas.Slices.{length-le}
+use Rattle.tiff_encode.specs.lemmas.Header.{header_stands}
+use Rattle.tiff_value.specs.lemmas.Put.{put_end}
 
 -- the model of a header describes the file of a header that is written to an empty sink
 pub leaves_header : (kind : FileKind) (contents : List ℕ) (failures at width : ℕ)

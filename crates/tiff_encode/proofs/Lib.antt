@@ -1,11 +1,8 @@
-pub mod Slices
 pub mod Columns
 pub mod Keeping
 pub mod Moving
 pub mod DirectoryMoves
 pub mod Settings
-pub mod Kept
-pub mod Header
 pub mod Headers
 pub mod Entries
 pub mod FileAndModel
@@ -16,7 +13,6 @@ pub mod Runs
 pub mod Listing
 pub mod CallFits
 pub mod Calling
-pub mod ImageState
 pub mod Images
 pub mod Storing
 pub mod Leaving
@@ -37,15 +33,9 @@ pub mod Endings
 pub mod Data
 pub mod EndLinks
 pub mod Running
-pub mod Samples
-pub mod NumbersIn
 pub mod StoredBytes
-pub mod JobSamples
 pub mod Stepped
 pub mod Appending
-pub mod GoingOn
-pub mod LongerChain
-pub mod FormerBytes
 pub mod FormerPages
 pub mod PagesGoOn
 pub mod FormerSamples

@@ -5,7 +5,7 @@ use Rattle.std.proofs.lemmas.Bool.{cases_eq}
 use Rattle.std.specs.Prelude.{map}
 use Rattle.std.specs.List.{list_any}
 use Rattle.std.specs.FinMap.{len}
-use Rattle.tiff_base.proofs.Common.{bind_ok}
+use Rattle.tiff_base.specs.lemmas.Common.{bind_ok}
 use Rattle.tiff_base.specs.declared.error.TiffError.{TiffError}
 use Rattle.tiff_base.specs.declared.tags.FileKind.{FileKind}
 use Rattle.tiff_base.specs.declared.tags.ByteOrder.TheVariants.{LittleEndian}
@@ -17,10 +17,10 @@ use Rattle.tiff_ifd.specs.Chain.{link_from, IsChain, Chain}
 use Rattle.tiff_encode.specs.Appending.{HasHeader}
 use Rattle.tiff_encode.specs.Model.{In, FinishedDirectory, Model, FileContains, IsLink, header_link, own_link}
 use Rattle.tiff_encode.specs.LongerChain.{chain_behind, link_offset_at, link_behind, unless_cut, LinkBehind, AreLinked, PagesGoOn, LastLinkEnds}
-use Rattle.tiff_encode.proofs.Slices.{ok_bind, ok_inj, some_inj, none_some}
-use Rattle.tiff_encode.proofs.Kept.{own_parts}
-use Rattle.tiff_encode.proofs.GoingOn.{some_offset, number_within}
-use Rattle.tiff_encode.proofs.LongerChain.{NotMet, later, not_met, more_met, none_met, enters, entered_link, other_link, zero_link, some_link, ended, own_link_at, chain_of, chain_is, uncut, chain_goes_on}
+use Rattle.tiff_encode.specs.lemmas.Slices.{ok_bind, ok_inj, some_inj, none_some}
+use Rattle.tiff_encode.specs.lemmas.Kept.{own_parts}
+use Rattle.tiff_encode.specs.lemmas.GoingOn.{some_offset, number_within}
+use Rattle.tiff_encode.specs.lemmas.LongerChain.{NotMet, later, not_met, more_met, none_met, enters, entered_link, other_link, zero_link, some_link, ended, own_link_at, chain_of, chain_is, uncut, chain_goes_on}
 
 abbrev Link : Type 0
 Link = Result (Option ℕ) TiffError

@@ -1,13 +1,9 @@
 -- What the chunks and the images of a file show.
-pub mod Color
-pub mod Bytes
 pub mod Undone
 pub mod Data
-pub mod Offsets
 pub mod Packed
 pub mod Whole
 pub mod Chunks
 pub mod Images
 pub mod FirstPage
-pub mod Parts
 pub mod Gray

@@ -7,7 +7,7 @@ use Rattle.tiff_base.specs.declared.error.TiffError.{TiffError}
 use Rattle.tiff_base.specs.SourceAndSink.{AreOctets}
 use Rattle.tiff_page.specs.Pixels.{numbers_in}
 use Rattle.tiff_page.specs.Row.{IsSize}
-use Rattle.tiff_page.proofs.Rows.{some_size}
+use Rattle.tiff_page.specs.lemmas.Rows.{some_size}
 use Rattle.tiff_value.specs.ColorType.{sample_number}
 use Rattle.tiff_encode.specs.declared.encoder.image.samples.ImageSamples.{ImageSamples}
 use Rattle.tiff_encode.specs.declared.encoder.image.samples.ImageSamples.TheVariants.{Typed, Stored}
@@ -20,7 +20,7 @@ use Rattle.tiff_encode.specs.Parts.{next_part, next_slice, WritesPart}
 use Rattle.tiff_encode.specs.Stored.{IsChunkStored}
 use Rattle.tiff_encode.specs.Storing.{AppendsChunk, StoresChunk}
 use Rattle.tiff_encode.proofs.Data.Pieces.{part_written}
-use Rattle.tiff_encode.proofs.NumbersIn.{bytes_again, part_numbers}
+use Rattle.tiff_encode.specs.lemmas.NumbersIn.{bytes_again, part_numbers}
 use Rattle.tiff_encode.proofs.Storing.{chunk_stored, lent}
 
 -- Samples are as many as their numbers.

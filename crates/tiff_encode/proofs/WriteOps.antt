@@ -8,8 +8,8 @@ use Rattle.tiff_encode.specs.FileBytes.{offset_len, directory_bytes}
 use Rattle.tiff_encode.specs.Model.{ByteRegion, Model, FileContains, with_link, with_supplied, IsLink, Grows}
 use Rattle.tiff_encode.specs.WriteOps.{WriteOp, Appended, Supplied, Listed, Linked, after_op, bytes_after, all_appended, model_after_op, model_after}
 use Rattle.tiff_encode.specs.Laws.{OpFits, OpsFit, OpsStand, OpsGrow, OpsBegun, OpsTorn, OpsJoin, OpsAppend}
-use Rattle.tiff_encode.proofs.Slices.{length-le}
-use Rattle.tiff_encode.proofs.Kept.{kept_by_appending, kept_by_patching, kept_by_tearing}
+use Rattle.tiff_encode.specs.lemmas.Slices.{length-le}
+use Rattle.tiff_encode.specs.lemmas.Kept.{kept_by_appending, kept_by_patching, kept_by_tearing}
 use Rattle.tiff_encode.proofs.Grown.{grown_by_region, grown_by_inline, grown_by_placed, grown_by_listing}
 
 -- ---- one after another

@@ -42,3 +42,4 @@ pub mod Appending
 pub mod LongerChain
 pub mod FormerPages
 pub mod JobsBehind
+pub mod lemmas

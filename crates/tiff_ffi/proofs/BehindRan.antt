@@ -7,7 +7,7 @@ use Rattle.tiff_encode.specs.Appending.{Continues}
 use Rattle.tiff_encode.specs.FileBytes.{offset_len}
 use Rattle.tiff_append.specs.declared.sink.Addition.{Addition}
 use Rattle.tiff_append.specs.Behind.{IsAddedTo, RunsAt, added_to}
-use Rattle.tiff_append.proofs.Behind.{continues, gathered, goes_on}
+use Rattle.tiff_append.specs.lemmas.Behind.{continues, gathered, goes_on}
 use Rattle.tiff_ffi.specs.declared.pages.ChildJobs.{ChildJobs}
 use Rattle.tiff_ffi.specs.declared.pages.PagesJobs.{PagesJobs}
 use Rattle.tiff_ffi.specs.declared.pages.RefusedPage.{RefusedPage}

@@ -5,8 +5,8 @@ use Rattle.tiff_value.specs.declared.encoder.colortype.ColorTypeName.{ColorTypeN
 use Rattle.tiff_value.specs.ColorTypes.{inner_size}
 use Rattle.tiff_page.specs.Pixels.{numbers_in}
 use Rattle.tiff_page.specs.Row.{IsSize}
-use Rattle.tiff_encode.proofs.NumbersIn.{bytes_again}
-use Rattle.tiff_encode.proofs.Shown.Color.{of_family}
+use Rattle.tiff_encode.specs.lemmas.NumbersIn.{bytes_again}
+use Rattle.tiff_encode.specs.lemmas.Shown.Color.{of_family}
 
 -- Samples that were made of bytes have these bytes.
 pub bytes_back : (name : ColorTypeName) (size : ℕ) (bytes samples : List ℕ) → size ≡ inner_size name

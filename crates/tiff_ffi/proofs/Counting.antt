@@ -5,8 +5,8 @@ use Rattle.std.proofs.lemmas.Option.{slice_get_within}
 use Rattle.std.specs.List.{slice_get}
 use Rattle.tiff_base.specs.declared.error.TiffError.{TiffError}
 use Rattle.tiff_base.specs.Answers.{◌>>=◌, AnswersWithoutSource}
-use Rattle.tiff_base.proofs.Causes.{cause_along}
-use Rattle.tiff_ifd.proofs.Chain.{apart_chain}
+use Rattle.tiff_base.specs.lemmas.Causes.{cause_along}
+use Rattle.tiff_ifd.specs.lemmas.Chain.{apart_chain}
 use Rattle.tiff_page.specs.PixelFault.{each_below}
 use Rattle.tiff_decode.specs.Machine.{Decoding}
 use Rattle.tiff_decode.specs.Opened.{OpensFirst}

@@ -23,9 +23,9 @@ use Rattle.tiff_encode.specs.Chunks.{all_samples, image_page, chunk_rows, row_sa
 use Rattle.tiff_encode.specs.Calls.{image_in, appends_chunk, write_chunk, write_chunks}
 use Rattle.tiff_encode.specs.Stored.{AreStored, IsCompressed, unpacked_chunk}
 use Rattle.tiff_encode.proofs.Data.Calls.{bind_answered, cause_answered}
-use Rattle.tiff_encode.proofs.ImageState.{one_part, strip_rows}
+use Rattle.tiff_encode.specs.lemmas.ImageState.{one_part, strip_rows}
 use Rattle.tiff_encode.proofs.Storing.{left_plain}
-use Rattle.tiff_laws.proofs.Back.{take_next}
+use Rattle.tiff_laws.specs.lemmas.Back.{take_next}
 use Rattle.tiff_ffi.proofs.FrameAlike.{sizes}
 
 -- lists one behind the other

@@ -25,12 +25,12 @@ use Rattle.tiff_encode.specs.Model.{header_model}
 use Rattle.tiff_encode.specs.Drawn.{IsValidImage}
 use Rattle.tiff_encode.specs.Parts.{next_part, WritesPart}
 use Rattle.tiff_encode.specs.Storing.{WritesStoredChunk}
-use Rattle.tiff_encode.proofs.ImageState.{strip_rows}
+use Rattle.tiff_encode.specs.lemmas.ImageState.{strip_rows}
 use Rattle.tiff_encode.proofs.Leaving.{ok_err}
 use Rattle.tiff_encode.proofs.Open.Begun.{begins_open}
-use Rattle.tiff_encode.proofs.Shown.Color.{of_family}
+use Rattle.tiff_encode.specs.lemmas.Shown.Color.{of_family}
 use Rattle.tiff_encode.proofs.Data.Begun.{new_is}
-use Rattle.tiff_encode.proofs.Data.Offsets.{strip_of, chunky_of, wide, of_plane, all, above, within, count_is}
+use Rattle.tiff_encode.specs.lemmas.Data.Offsets.{strip_of, chunky_of, wide, of_plane, all, above, within, count_is}
 use Rattle.tiff_encode.proofs.Data.Written.{HasWritten, none_written, more_written, all_written}
 use Rattle.tiff_ffi.specs.Zeros.{IsNewImage, HasZeros, zeros_of}
 

@@ -24,8 +24,8 @@ use Rattle.tiff_encode.specs.Ends.{EndsAsDefined}
 use Rattle.tiff_encode.specs.ImageData.{WritesImage, WritesDataBy}
 use Rattle.tiff_encode.specs.Open.{IsOpen}
 use Rattle.tiff_encode.specs.Stored.{AreStored, IsCompressed, unpacked_chunk}
-use Rattle.tiff_encode.proofs.Slices.{length-le}
-use Rattle.tiff_encode.proofs.Shown.Bytes.{length_written}
+use Rattle.tiff_encode.specs.lemmas.Slices.{length-le}
+use Rattle.tiff_encode.specs.lemmas.Shown.Bytes.{length_written}
 use Rattle.tiff_encode.proofs.Joining.{bind_told}
 use Rattle.tiff_encode.proofs.Data.Begun.{new_adding, new_is}
 use Rattle.tiff_encode.proofs.Data.Calls.{AreAt}

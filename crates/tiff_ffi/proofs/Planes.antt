@@ -6,12 +6,12 @@ use Rattle.tiff_base.specs.declared.tags.PlanarConfiguration.{PlanarConfiguratio
 use Rattle.tiff_base.specs.declared.tags.PlanarConfiguration.TheVariants.{Chunky, Planar}
 use Rattle.tiff_base.specs.Answers.{◌>>=◌}
 use Rattle.tiff_base.specs.Color.{num_samples}
-use Rattle.tiff_base.proofs.Common.{bind_ok}
+use Rattle.tiff_base.specs.lemmas.Common.{bind_ok}
 use Rattle.tiff_page.specs.declared.layout.BufferLayoutPreference.{BufferLayoutPreference}
 use Rattle.tiff_page.specs.Buffers.{all_planes, image_buffer_layout, planes_layout}
 use Rattle.tiff_page.specs.Layout.{LayoutRecord, color_of, layout_of, planes, wide}
 use Rattle.tiff_page.specs.Page.{PageRecord}
-use Rattle.tiff_page.proofs.Planes.{layout_gives}
+use Rattle.tiff_page.specs.lemmas.Planes.{layout_gives}
 
 few : (planar : PlanarConfiguration) (color : ColorType) → num_samples color < 2 ^ 16
     → planes planar color < 2 ^ 32

@@ -24,7 +24,7 @@ use Rattle.tiff_base.specs.Field.{DirectoryRecord, Field}
 use Rattle.tiff_base.specs.Header.{Header, header_at}
 use Rattle.tiff_base.specs.Tags.{method_number, method_of, format_number, format_of}
 use Rattle.tiff_base.specs.Named.{NamesComeBack, NumbersComeBack}
-use Rattle.tiff_base.proofs.Common.{bind_ok}
+use Rattle.tiff_base.specs.lemmas.Common.{bind_ok}
 use Rattle.tiff_ifd.specs.declared.limits.Limits.{Limits}
 use Rattle.tiff_ifd.specs.Limits.{unlimited}
 use Rattle.tiff_ifd.specs.Fitted.{fitted_numbers}
@@ -35,7 +35,7 @@ use Rattle.tiff_page.specs.Buffers.{image_chunk_buffer_layout}
 use Rattle.tiff_page.specs.Checks.{format_from, format_in, method_in, one_format, page_of}
 use Rattle.tiff_page.specs.Page.{PageRecord}
 use Rattle.tiff_page.specs.PixelCalls.{read_chunk_bytes}
-use Rattle.tiff_page.proofs.PassedChecks.{good, ok_is, passed_checks}
+use Rattle.tiff_page.specs.lemmas.PassedChecks.{good, ok_is, passed_checks}
 use Rattle.tiff_decode.specs.DefaultLimits.{default_limits}
 use Rattle.tiff_decode.specs.Machine.{Decoding}
 use Rattle.tiff_decode.specs.Opened.{moved, opened_by, opened_of}

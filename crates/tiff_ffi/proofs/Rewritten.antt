@@ -8,8 +8,8 @@ use Rattle.tiff_ifd.specs.Limits.{unlimited}
 use Rattle.tiff_pages.specs.declared.plan.PagePlan.{PagePlan}
 use Rattle.tiff_pages.specs.Plan.{read_planned}
 use Rattle.tiff_rewrite.specs.PlannedRewrite.{planned_place}
-use Rattle.tiff_rewrite.proofs.ChunkPut.{first_passed}
-use Rattle.tiff_rewrite.proofs.PlannedShown.{plans_show_rewritten}
+use Rattle.tiff_rewrite.specs.lemmas.ChunkPut.{first_passed}
+use Rattle.tiff_rewrite.specs.lemmas.PlannedShown.{plans_show_rewritten}
 use Rattle.tiff_ffi.specs.declared.plan.PlannedPage.{PlannedPage}
 use Rattle.tiff_ffi.specs.declared.rewrite.PlacedChunk.{PlacedChunk}
 use Rattle.tiff_ffi.specs.Plan.{plan_from, read_planned_chunk}

@@ -8,8 +8,8 @@ use Rattle.tiff_base.specs.declared.windows.Stretch.{Stretch}
 use Rattle.tiff_base.specs.declared.windows.Windows.{Windows}
 use Rattle.tiff_ffi.specs.InWindows.{SeenTells, TellsBy, bytes_wanted, copied}
 use Rattle.tiff_base.specs.Windows.{AreWindowsOf, IsWanted, behind_windows, file_of}
-use Rattle.tiff_base.proofs.Causes.{cause_along}
-use Rattle.tiff_base.proofs.Seen.{same_file}
+use Rattle.tiff_base.specs.lemmas.Causes.{cause_along}
+use Rattle.tiff_base.specs.lemmas.Seen.{same_file}
 
 in_order_by : (b : Option ℕ) (seen : Windows) (status : ℕ) (wanted : Stretch) (stays told : Type 0)
     → IsSome b

@@ -63,7 +63,7 @@ fn number_of(kind: FileKind, link: &[u8]) -> u64
 
 // Runs the jobs of pages behind a file of the kind `K` whose last link is at an offset. Returns the
 // bytes of that link, and what the pages left behind the file.
-#[tactic(auto, using(tiff_append::proofs::Behind::out_of_memory, crate::proofs::BehindRan::fails_behind))]
+#[tactic(auto, using(tiff_append::specs::lemmas::Behind::out_of_memory, crate::proofs::BehindRan::fails_behind))]
 fn run_at_kind<K: TiffKind>(
     alloc: Global,
     file: &[u8],

@@ -125,7 +125,7 @@ fn fill(out: &mut [ListedDirectory], items: &[DirectoryItem])
 }
 
 // Opens a file and lists its directories.
-#[tactic(auto, using(tiff_pages::proofs::SeenFiles::directories_here))]
+#[tactic(auto, using(tiff_pages::specs::lemmas::SeenFiles::directories_here))]
 fn list_directories(alloc: Global, file: &[u8]) -> TiffResult<DirectoryList>
     ensures { AnswersWithoutSource directories_in result (tree_of file.now) }
 {

@@ -135,7 +135,7 @@ fn ran_of(file: Vec<u8>, replies: Vec<JobReply>) -> Ran
 }
 
 // Runs jobs over an empty sink, for a file of the kind `K`.
-#[tactic(auto, using(tiff_base::proofs::MemoryFaults::header_refused))]
+#[tactic(auto, using(tiff_base::specs::lemmas::MemoryFaults::header_refused))]
 fn run_kind<K: TiffKind>(alloc: Global, jobs: &[Job<'_>]) -> TiffResult<Ran>
     ensures { MatchResult result (λ ran. RanJobs K.kind jobs.now ran.file.items ran.refused
         ran.step) (λ e. e ≡ TiffError.OutOfMemory) }

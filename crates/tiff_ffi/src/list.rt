@@ -129,7 +129,7 @@ fn fill(out: &mut [ListedPage], items: &[PageItem])
 }
 
 // Opens a file and lists its pages.
-#[tactic(auto, using(tiff_pages::proofs::SeenFiles::pages_here))]
+#[tactic(auto, using(tiff_pages::specs::lemmas::SeenFiles::pages_here))]
 fn list_pages(alloc: Global, file: &[u8]) -> TiffResult<PageList>
     ensures { AnswersWithoutSource pages_in result (list_of file.now) }
 {

@@ -124,7 +124,7 @@ fn settings_of(image: &NewImage) -> TiffResult<Settings>
 
 // A new encoder over memory, with these settings and with room for `room` bytes. Its only error is
 // `OutOfMemory`.
-#[tactic(auto, using(crate::proofs::Writing::begun_by, tiff_base::proofs::MemoryFaults::header_refused))]
+#[tactic(auto, using(crate::proofs::Writing::begun_by, tiff_base::specs::lemmas::MemoryFaults::header_refused))]
 fn begin<K: TiffKind>(
     alloc: Global,
     settings: &Settings,
@@ -143,7 +143,7 @@ fn begin<K: TiffKind>(
 }
 
 // A file of one image of the color type `C`, written into memory from samples.
-#[tactic(auto, using(crate::proofs::Writing::file_written, crate::proofs::Writing::fault_written, tiff_base::proofs::MemoryFaults::only_memory))]
+#[tactic(auto, using(crate::proofs::Writing::file_written, crate::proofs::Writing::fault_written, tiff_base::specs::lemmas::MemoryFaults::only_memory))]
 fn write_whole<K: TiffKind, C: NamedColorType>(
     alloc: Global,
     settings: &Settings,

@@ -5,10 +5,10 @@ use borrow.Rule.Slice.PartMut.{put_mid, post_of}
 use lib.ListN.{replicate}
 use Rattle.tiff_base.specs.Runs.{Unpacked, with_front, runs}
 use Rattle.tiff_base.specs.SourceAndSink.{bytes_at, Reads}
-use Rattle.tiff_base.proofs.Blocks.{runs_after_drop, runs_literal, runs_no_op, runs_run}
+use Rattle.tiff_base.specs.lemmas.Blocks.{runs_after_drop, runs_literal, runs_no_op, runs_run}
 use Rattle.tiff_ifd.specs.declared.packbits.PackBitsCursor.{PackBitsCursor}
 use Rattle.tiff_ifd.specs.Unpacking.{left_at, count_of, GivesNext, UnpacksFront}
-use Rattle.tiff_ifd.proofs.Unpacking.{before_before, early_next, packed_next, read_behind, used_up}
+use Rattle.tiff_ifd.specs.lemmas.Unpacking.{before_before, early_next, packed_next, read_behind, used_up}
 
 -- ---- the first block
 

@@ -5,7 +5,7 @@ use Rattle.std.specs.Ordering.{eq_by_cmp, nat_cmp}
 use Rattle.std.specs.Cmp.{nat_cmp_total}
 use Rattle.std.specs.FinMap.{get, remove, len, entries, find, get-entries, len-entries, get-remove, len-remove, nat_cmp-IsAntisymmetric}
 use Rattle.tiff_ifd.specs.Links.{Links, Goes, Closes}
-use Rattle.tiff_ifd.proofs.Links.{Found, IsFound, IsLinked, some_or, found_or, equal_order}
+use Rattle.tiff_ifd.specs.lemmas.Links.{Found, IsFound, IsLinked, some_or, found_or, equal_order}
 
 next_of : (links : Links) (offset n m : ℕ) → get links offset ≡ Some (Some n)
     → get links offset ≡ Some (Some m) → n ≡ m

@@ -2,7 +2,7 @@
 use Rattle.std.proofs.Common.{◌≡◌, ℕ, ◌+◌, ◌^◌, ◌<◌, ◌≤◌, List, [], ◌∷◌, ◌++◌, length, reverse, Option, None, Some, Bool, true, false, Result, Ok, Err, refl, ap, sym, ◌∙◌, subst, arith}
 use Rattle.std.specs.List.{slice_get}
 use Rattle.std.proofs.lemmas.Option.{slice_get_past}
-use Rattle.tiff_base.proofs.Causes.{cause_along}
+use Rattle.tiff_base.specs.lemmas.Causes.{cause_along}
 use Rattle.tiff_base.specs.Answers.{IsCause, IsNotDevice, ◌>>=◌}
 use Rattle.tiff_base.specs.declared.error.TiffError.{TiffError}
 use Rattle.tiff_base.specs.declared.error.TiffError.TheVariants.{FormatError, UnsupportedError, IoError, LimitsExceeded, IntSizeError, UsageError, OutOfMemory}
@@ -13,9 +13,9 @@ use Rattle.tiff_base.specs.Directory.{directory_at, link_offset, count_width, of
 use Rattle.tiff_base.specs.Field.{DirectoryRecord}
 use Rattle.tiff_base.specs.Number.{number_at}
 use Rattle.tiff_base.specs.SourceAndSink.{SourceRecord}
-use Rattle.tiff_ifd.proofs.Begun.{begins_entered, cut_unread, cut_unentered, entered_by, grown, one_longer, refused_unentered, refused_unread}
-use Rattle.tiff_ifd.proofs.Chain.{IsFalseBit}
-use Rattle.tiff_ifd.proofs.Entries.{number_past, some_bytes}
+use Rattle.tiff_ifd.specs.lemmas.Begun.{begins_entered, cut_unread, cut_unentered, entered_by, grown, one_longer, refused_unentered, refused_unread}
+use Rattle.tiff_ifd.specs.lemmas.Chain.{IsFalseBit}
+use Rattle.tiff_ifd.specs.lemmas.Entries.{number_past, some_bytes}
 use Rattle.tiff_ifd.specs.Chain.{Chain, IsLinkOfDirectory, chain, link_of, unless_met}
 use Rattle.tiff_ifd.specs.IfdChainWalk.{ChainBegins, ChainEnds, NextIsRefused, NextLinkReadable, StepsOver, Walked, WalkSteps, WayReadable}
 

@@ -17,3 +17,4 @@ pub mod Stream
 pub mod Unpacking
 pub mod Stretches
 pub mod OneNumber
+pub mod lemmas

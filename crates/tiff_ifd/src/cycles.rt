@@ -62,7 +62,7 @@ impl IfdCycles {
     }
 
     // The number of accepted links.
-    #[tactic(auto, using(tiff_base::proofs::Maps::len_of_tree))]
+    #[tactic(auto, using(tiff_base::specs::lemmas::Maps::len_of_tree))]
     fn len(&self) -> usize
         ensures { result ≡ map.len self.now }
     {

@@ -146,7 +146,7 @@ struct EntryTable {
 
 // Reads the entries of a table. Returns the fields in file order, each with its tag number, and the
 // offset after the entries.
-#[tactic(auto, using(crate::proofs::Entries::no_entries, crate::proofs::Entries::read_there, crate::proofs::Entries::entries_more))]
+#[tactic(auto, using(crate::specs::lemmas::Entries::no_entries, crate::specs::lemmas::Entries::read_there, crate::specs::lemmas::Entries::entries_more))]
 fn read_entries<R: Source>(
     alloc: Global,
     source: &mut R,
@@ -178,7 +178,7 @@ fn read_entries<R: Source>(
 
 /// Reads the directory at an offset. Keeps the last entry of each tag and leaves out entries of
 /// unknown type. Returns `IoError(UnexpectedEof)` where the source ends inside the directory.
-#[tactic(auto, using(crate::proofs::Entries::directory_cut), unfolding(tiff_base::specs::Directory::directory_at))]
+#[tactic(auto, using(crate::specs::lemmas::Entries::directory_cut), unfolding(tiff_base::specs::Directory::directory_at))]
 pub fn read_directory<R: Source>(
     alloc: Global,
     source: &mut R,

@@ -44,7 +44,7 @@ impl Block {
 }
 
 // Reads the byte at an offset.
-#[tactic(auto, using(crate::proofs::Unpacking::byte_there, crate::proofs::Unpacking::byte_missing))]
+#[tactic(auto, using(crate::specs::lemmas::Unpacking::byte_there, crate::specs::lemmas::Unpacking::byte_missing))]
 fn read_byte<R: Source>(source: &mut R, at: u64) -> TiffResult<u8>
     ensures kept { IsKept R.contents R.failures result source.old source.new }
     ensures byte { ReadsByte (R.contents source.old).bytes at (R.failures source.old < R.failures source.new)
@@ -91,7 +91,7 @@ fn next_block<R: Source>(source: &mut R, at: u64, len: u64) -> TiffResult<Option
 
 // The block of the next byte: the block of the position, or the next block where none of it is
 // left.
-#[tactic(auto, using(crate::proofs::Unpacking::used_up))]
+#[tactic(auto, using(crate::specs::lemmas::Unpacking::used_up))]
 fn begun_block<R: Source>(
     source: &mut R,
     offset: PackBitsCursor,
@@ -295,7 +295,7 @@ impl PackBitsCursor {
     }
 
     // Fills the buffer with the next bytes. After an error the position may be past some of them.
-    #[tactic(auto, using(crate::proofs::Unpacking::short_by, crate::proofs::Unpacking::short_cause))]
+    #[tactic(auto, using(crate::specs::lemmas::Unpacking::short_by, crate::specs::lemmas::Unpacking::short_cause))]
     fn fill<R: Source>(&mut self, source: &mut R, buf: &mut [u8]) -> TiffResult<()>
         ensures kept { IsKept R.contents R.failures result source.old source.new }
         ensures ok { OnOk result

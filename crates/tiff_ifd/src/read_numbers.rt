@@ -52,7 +52,7 @@ fn unsigned_of(field_type: Type, order: ByteOrder, bytes: &[u8]) -> u64
 // Decodes consecutive values of type SHORT, LONG or LONG8 into `numbers`. Where the type and the
 // byte order are constants, the compiler specializes the loop for them.
 #[inline(always)]
-#[tactic(auto, using(crate::proofs::Unsigned::unit_within))]
+#[tactic(auto, using(crate::specs::lemmas::Unsigned::unit_within))]
 fn fill_numbers(field_type: Type, order: ByteOrder, bytes: &[u8], numbers: &mut [u64])
     requires numbers { IsUnsigned field_type }
     requires whole { length bytes.now ≡ length numbers.old * type_size field_type }
@@ -94,7 +94,7 @@ fn fill_by_type(field_type: Type, order: ByteOrder, bytes: &[u8], numbers: &mut 
 }
 
 // Decodes `count` consecutive values of type SHORT, LONG or LONG8.
-#[tactic(auto, using(crate::proofs::Unsigned::unsigned_ok))]
+#[tactic(auto, using(crate::specs::lemmas::Unsigned::unsigned_ok))]
 fn unsigned_from(
     alloc: Global,
     field_type: Type,
@@ -113,7 +113,7 @@ fn unsigned_from(
 
 impl FieldReader<'_> {
     // Reads the numbers of a SHORT, LONG or LONG8 field whose values are outside the entry.
-    #[tactic(auto, using(crate::proofs::Within::placed_within), unfolding(tiff_base::specs::FieldBytes::field_bytes))]
+    #[tactic(auto, using(crate::specs::lemmas::Within::placed_within), unfolding(tiff_base::specs::FieldBytes::field_bytes))]
     fn read_placed<R: Source>(
         &self,
         source: &mut R,
@@ -199,7 +199,7 @@ impl FieldReader<'_> {
     }
 
     /// Reads the numbers of a tag. Returns `None` if the directory does not have the tag.
-    #[tactic(auto, using(crate::proofs::Within::numbers_found), unfolding(crate::specs::TagLookup::look_in, crate::specs::TagLookup::find))]
+    #[tactic(auto, using(crate::specs::lemmas::Within::numbers_found), unfolding(crate::specs::TagLookup::look_in, crate::specs::TagLookup::find))]
     pub fn find_numbers<R: Source>(
         &self,
         source: &mut R,

@@ -275,7 +275,7 @@ fn value_from(alloc: Global, stored: StoredValues, bytes: &[u8]) -> TiffResult<V
 /// Reads a text of `len` bytes at an offset, up to its first zero. Returns `IoError(UnexpectedEof)`
 /// where the source has fewer bytes, before it allocates memory. Returns `InvalidTag` for a text
 /// that is not UTF-8.
-#[tactic(auto, using(crate::proofs::Within::text_read_within))]
+#[tactic(auto, using(crate::specs::lemmas::Within::text_read_within))]
 pub fn read_text_at<R: Source>(
     alloc: Global,
     source: &mut R,
@@ -306,7 +306,7 @@ pub(crate) fn is_allowed(limits: &Limits, field_type: Type, count: u64) -> bool
 impl FieldReader<'_> {
     // Reads the value of a field whose values are outside the entry. Returns the errors of
     // `read_value`.
-    #[tactic(auto, using(crate::proofs::Within::value_within, crate::proofs::Within::read_within, crate::proofs::Within::exactly_unlimited, crate::proofs::Within::read_unlimited), unfolding(tiff_base::specs::FieldBytes::field_bytes))]
+    #[tactic(auto, using(crate::specs::lemmas::Within::value_within, crate::specs::lemmas::Within::read_within, crate::specs::lemmas::Within::exactly_unlimited, crate::specs::lemmas::Within::read_unlimited), unfolding(tiff_base::specs::FieldBytes::field_bytes))]
     fn read_placed_value<R: Source>(
         &self,
         source: &mut R,
@@ -347,7 +347,7 @@ impl FieldReader<'_> {
     /// `IoError(UnexpectedEof)` for bytes past the end of the source. Returns `InvalidTag` for a text in the entry that does not
     /// end there, and for bytes that are no text. Allocates memory only for values within the
     /// limits and within the source, and for a value in the entry only where it is valid.
-    #[tactic(auto, using(crate::proofs::Within::value_unlimited), unfolding(crate::specs::FieldValue::field_value))]
+    #[tactic(auto, using(crate::specs::lemmas::Within::value_unlimited), unfolding(crate::specs::FieldValue::field_value))]
     pub fn read_value<R: Source>(&self, source: &mut R, entry: &Entry) -> TiffResult<Value>
         ensures kept { IsKept R.contents R.failures result source.old source.new }
         ensures answer { let given
@@ -384,7 +384,7 @@ impl FieldReader<'_> {
     }
 
     /// Reads the value of a tag. Returns `None` if the directory does not have the tag.
-    #[tactic(auto, using(crate::proofs::Within::found_wanted, crate::proofs::Within::found_limited), unfolding(crate::specs::TagLookup::look_in))]
+    #[tactic(auto, using(crate::specs::lemmas::Within::found_wanted, crate::specs::lemmas::Within::found_limited), unfolding(crate::specs::TagLookup::look_in))]
     pub fn find_value<R: Source>(
         &self,
         source: &mut R,

@@ -42,7 +42,7 @@ impl<R: Source> Tags for ValueReader<R> {
         self.directory.contains(tag)
     }
 
-    #[tactic(auto, using(crate::proofs::Within::look_within), unfolding(crate::specs::TagLookup::look_in))]
+    #[tactic(auto, using(crate::specs::lemmas::Within::look_within), unfolding(crate::specs::TagLookup::look_in))]
     fn find(&mut self, alloc: Global, tag: Tag) -> TiffResult<Option<Value>> {
         let fields = FieldReader {
             alloc,

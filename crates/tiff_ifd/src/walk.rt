@@ -41,7 +41,7 @@ fn behind(directory: &Directory) -> Option<u64>
 
 impl IfdChainWalk {
     /// A walk that has entered no offset. `first` is the next offset.
-    #[tactic(auto, using(crate::proofs::Begun::none_begun))]
+    #[tactic(auto, using(crate::specs::lemmas::Begun::none_begun))]
     pub fn new(alloc: Global, first: u64) -> Self
         ensures walked { result ≡ record { offsets = []; next = Some first } }
         ensures begins { (kind : FileKind) (order : ByteOrder) (bytes : List ℕ)
@@ -89,7 +89,7 @@ impl IfdChainWalk {
     }
 
     // Whether a link leads to the next offset or to an entered one.
-    #[tactic(auto, using(crate::proofs::Begun::is_itself, crate::proofs::Begun::is_among))]
+    #[tactic(auto, using(crate::specs::lemmas::Begun::is_itself, crate::specs::lemmas::Begun::is_among))]
     fn meets(&mut self, offset: u64, link: u64) -> Result<bool, AllocError>
         ensures met { IfOk result (λ met. met ≡ list_any (nat_eq link) (offset ∷ reverse self.old.offsets)) }
         ensures same { self.new ≡ self.old }
@@ -102,7 +102,7 @@ impl IfdChainWalk {
 
     // Adds the next offset with its link. Returns `FormatError(CycleInOffsets)` where the link
     // leads to this offset or to an entered one.
-    #[tactic(auto, using(crate::proofs::Begun::unmet, crate::proofs::Begun::none_met, crate::proofs::Begun::met))]
+    #[tactic(auto, using(crate::specs::lemmas::Begun::unmet, crate::specs::lemmas::Begun::none_met, crate::specs::lemmas::Begun::met))]
     fn add(&mut self, offset: u64, next: Option<u64>) -> TiffResult<()>
         ensures unmet { IfOk result (λ _. unless_met (offset ∷ reverse self.old.offsets) next ≡ Ok next) }
         ensures added { IfOk result

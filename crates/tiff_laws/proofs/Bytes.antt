@@ -6,12 +6,12 @@ use Rattle.tiff_page.specs.Page.{PageRecord}
 use Rattle.tiff_page.specs.Rect.{rect, across, chunks_of_plane}
 use Rattle.tiff_page.specs.Layout.{LayoutRecord, row_bits, row_bytes, samples_in_chunk}
 use Rattle.tiff_page.specs.Laws.{HasSides, ChunkIsWithin, ChunksWithin}
-use Rattle.tiff_page.proofs.ChunkRows.{fewer_bytes, start_is, none_before}
+use Rattle.tiff_page.specs.lemmas.ChunkRows.{fewer_bytes, start_is, none_before}
 use Rattle.tiff_laws.specs.Whole.{ByteIsOfChunk, PlanesCovered, chunk_row, at_image}
 use Rattle.tiff_laws.specs.Bytes.{plane_of_byte, line_of_byte, column_of_byte, full_row, chunk_of_byte, row_of_byte, byte_in_row, IsByteAt, IsFoundAt, OneByte}
 use Rattle.tiff_laws.proofs.Laid.{IsLaid, laid}
 use Rattle.tiff_laws.proofs.Whole as whole
-use Rattle.tiff_page.proofs.Planes.{aligned_rows}
+use Rattle.tiff_page.specs.lemmas.Planes.{aligned_rows}
 use Rattle.tiff_laws.proofs.Covered.{parts_some}
 
 -- a byte of a plane is below the end of the planes

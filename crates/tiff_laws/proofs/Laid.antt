@@ -2,7 +2,7 @@
 use Rattle.std.proofs.Common.{◌≡◌, ℕ, ◌*◌, ◌^◌, ◌<◌, ◌≤◌, Bool, true, false, List, length, Ok, Err, refl, sym, subst, ⊎_elim}
 use Rattle.std.specs.Prelude.{Result, nat_lt}
 use Rattle.std.proofs.lemmas.Bool.{cases_Bool, ltb-true, ltb-false}
-use Rattle.tiff_base.proofs.Common.{bind_ok}
+use Rattle.tiff_base.specs.lemmas.Common.{bind_ok}
 use Rattle.tiff_base.specs.declared.color.ColorType.{ColorType}
 use Rattle.tiff_base.specs.declared.error.TiffError.{TiffError}
 use Rattle.tiff_base.specs.declared.error.TiffError.TheVariants.{LimitsExceeded, UsageError}
@@ -15,7 +15,7 @@ use Rattle.tiff_page.specs.Layout.{LayoutRecord, layout_of, color_of, row_bytes,
 use Rattle.tiff_page.specs.PixelFault.{fail_if}
 use Rattle.tiff_page.specs.Buffers.{planes_layout}
 use Rattle.tiff_page.specs.PixelCalls.{Part, room_fault, part_fault, bytes_with_region, fill_buffer}
-use Rattle.tiff_page.proofs.PassedChecks.{ok_is}
+use Rattle.tiff_page.specs.lemmas.PassedChecks.{ok_is}
 
 -- ---- chains of steps
 

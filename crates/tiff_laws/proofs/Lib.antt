@@ -5,7 +5,6 @@ mod WhereChunks
 mod Covered
 mod Made
 mod FirstRefused
-pub mod Back
 mod Sides
 mod Bytes
 mod Samples
@@ -14,6 +13,5 @@ mod UnitChunks
 mod UnitBytes
 mod Walking
 mod OnTheWay
-pub mod Listed
 mod Totals
 mod PixelCosts

@@ -13,7 +13,7 @@ use Rattle.tiff_page.specs.Pixels.{Region, byte_at, region_byte, image_region}
 use Rattle.tiff_page.specs.PixelCalls as pixels
 use Rattle.tiff_page.specs.PixelCalls.{Part, image_part, planes_used, bytes_with_region}
 use Rattle.tiff_page.specs.Laws.{HasSides, PlacedEach}
-use Rattle.tiff_page.proofs.PassedChecks.{good, ok_is}
+use Rattle.tiff_page.specs.lemmas.PassedChecks.{good, ok_is}
 use Rattle.tiff_decode.specs.Machine.{Decoding}
 use Rattle.tiff_decode.specs.Outcome as outcome
 use Rattle.tiff_laws.specs.Whole.{EachUsed, HasRoom, IsChunkRead, IsLayout, IsMadeOfChunks, ByteIsOfChunk, ImageIsItsChunks, PlaneOfChunks, PlanesCovered, ReadWhereChunks, at_image, chunk_byte_count}

@@ -13,7 +13,7 @@ use Rattle.tiff_base.specs.SourceAndSink.{SourceRecord}
 use Rattle.tiff_ifd.specs.Chain.{chain}
 use Rattle.tiff_ifd.specs.Stretches.{LinkReadable}
 use Rattle.tiff_ifd.specs.IfdChainWalk.{ChainBegins, NextLinkReadable, Walked, link_behind}
-use Rattle.tiff_ifd.proofs.Begun.{offset_begun}
+use Rattle.tiff_ifd.specs.lemmas.Begun.{offset_begun}
 use Rattle.tiff_laws.specs.Costs as spec
 use Rattle.tiff_laws.specs.Costs.{AreAllReadable, stretch_bytes}
 

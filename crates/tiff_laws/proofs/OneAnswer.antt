@@ -8,7 +8,7 @@ use Rattle.tiff_decode.specs.NextState.{IsNamed}
 use Rattle.tiff_decode.specs.Promise.{promise}
 use Rattle.tiff_decode.specs.ReplyView.{ReplyView, sees, sees_nothing, reply_view}
 use Rattle.tiff_decode.specs.Step.{Step}
-use Rattle.tiff_decode.proofs.NextState.{answer_of, IsAnswer, called}
+use Rattle.tiff_decode.specs.lemmas.NextState.{answer_of, IsAnswer, called}
 use Rattle.tiff_laws.specs.OneAnswer.{SameSight, SameAnswer}
 
 -- two results with the same view are the same

@@ -18,9 +18,9 @@ use Rattle.tiff_page.specs.PixelCalls.{Part, chunk_part, image_part}
 use Rattle.tiff_page.specs.Pixels.{needed_bytes, needed_of_row, needs_whole_rows, stored_row_bytes, stored_samples}
 use Rattle.tiff_page.specs.Reach.{LaidReadable, PartReadable}
 use Rattle.tiff_page.specs.Rect.{across, chunks_of_plane, rect}
-use Rattle.tiff_page.proofs.Filling.{same_height}
-use Rattle.tiff_page.proofs.Planes.{layout_gives, Stores, color_stores, shown_stored}
-use Rattle.tiff_page.proofs.PositionLaws.{row_in}
+use Rattle.tiff_page.specs.lemmas.Filling.{same_height}
+use Rattle.tiff_page.specs.lemmas.Planes.{layout_gives, Stores, color_stores, shown_stored}
+use Rattle.tiff_page.specs.lemmas.PositionLaws.{row_in}
 use Rattle.tiff_laws.specs.Costs as spec
 use Rattle.tiff_laws.specs.Costs.{AreAllReadable, stretch_bytes}
 use Rattle.tiff_laws.proofs.Laid.{planes_laid}

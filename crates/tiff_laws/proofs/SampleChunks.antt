@@ -3,7 +3,7 @@ use Rattle.std.proofs.Common.{◌≡◌, ℕ, ◌*◌, ◌/◌, ◌<◌, ◌≤�
 use Rattle.std.specs.Prelude.{Result, nat_le, replicate}
 use Rattle.std.proofs.lemmas.List.{length-replicate}
 use Rattle.std.proofs.Math.Nat.{mul_comm, mul-le-mul_right}
-use Rattle.tiff_base.proofs.Common.{bind_ok}
+use Rattle.tiff_base.specs.lemmas.Common.{bind_ok}
 use Rattle.tiff_base.specs.declared.error.TiffError.{TiffError}
 use Rattle.tiff_base.specs.Answers.{◌>>=◌}
 use Rattle.tiff_page.specs.declared.layout.BufferLayoutPreference.{BufferLayoutPreference}
@@ -14,7 +14,7 @@ use Rattle.tiff_page.specs.Image.{Decoded, decoded_samples}
 use Rattle.tiff_page.specs.Buffers.{all_planes}
 use Rattle.tiff_page.specs.PixelCalls.{planes_used}
 use Rattle.tiff_page.specs.Laws.{HasSides, SomeBytes}
-use Rattle.tiff_page.proofs.PassedChecks.{good, ok_is}
+use Rattle.tiff_page.specs.lemmas.PassedChecks.{good, ok_is}
 use Rattle.tiff_decode.specs.Machine.{Decoding}
 use Rattle.tiff_decode.specs.Outcome as outcome
 use Rattle.tiff_laws.specs.Sides.{HasSamples}

@@ -21,7 +21,7 @@ use Rattle.tiff_page.specs.Buffers.{planes_layout, all_planes}
 use Rattle.tiff_page.specs.PixelCalls as pixels
 use Rattle.tiff_page.specs.PixelCalls.{Part, image_part, chunk_part, room_fault, planes_used, fill_buffer, samples}
 use Rattle.tiff_page.specs.Laws.{HasSides, SomeBytes}
-use Rattle.tiff_page.proofs.Planes.{Shows, color_shows}
+use Rattle.tiff_page.specs.lemmas.Planes.{Shows, color_shows}
 use Rattle.tiff_decode.specs.Machine.{Decoding}
 use Rattle.tiff_decode.specs.Outcome as outcome
 use Rattle.tiff_laws.specs.Sides.{HasSamples}

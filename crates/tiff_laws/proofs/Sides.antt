@@ -2,8 +2,8 @@
 use Rattle.std.proofs.Common.{◌≡◌, ℕ, zero, suc, ◌^◌, ◌<◌, Bool, true, false, List, [], ◌∷◌, length, Option, Some, None, Ok, Err, refl, subst, arith}
 use Rattle.std.specs.Prelude.{Result, if◌then◌else◌, ◌==◌, ◌&&◌, ◌||◌, not}
 use Rattle.std.specs.List.{list_all}
-use Rattle.tiff_base.proofs.Common.{bind_ok}
-use Rattle.tiff_base.proofs.Common.{neither}
+use Rattle.tiff_base.specs.lemmas.Common.{bind_ok}
+use Rattle.tiff_base.specs.lemmas.Common.{neither}
 use Rattle.tiff_base.specs.declared.error.TiffError.{TiffError}
 use Rattle.tiff_base.specs.declared.error.TiffError.TheVariants.{FormatError}
 use Rattle.tiff_base.specs.declared.error.TiffFormatError.TheVariants.{InvalidTagValueType}
@@ -17,7 +17,7 @@ use Rattle.tiff_ifd.specs.Fitted.{fitted_numbers}
 use Rattle.tiff_page.specs.Counts.{planes_of}
 use Rattle.tiff_page.specs.Page.{Chunks}
 use Rattle.tiff_page.specs.Checks.{sides, size_in, some_samples, samples_in, same_depth, one_depth, depth_from, depth_in, chunks_counted, some_rows, strips_in, some_side, tiles_in, chunks_in}
-use Rattle.tiff_page.proofs.PassedChecks.{good, ok_is, passed_checks}
+use Rattle.tiff_page.specs.lemmas.PassedChecks.{good, ok_is, passed_checks}
 use Rattle.tiff_laws.specs.Sides.{PageHasMethod, PageHasSides}
 
 -- ---- the result of a choice

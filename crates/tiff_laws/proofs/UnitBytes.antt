@@ -14,7 +14,7 @@ use Rattle.tiff_page.specs.Pixels.{Region, region_byte, chunk_region}
 use Rattle.tiff_page.specs.PixelCalls as pixels
 use Rattle.tiff_page.specs.PixelCalls.{planes_used, bytes_with_region}
 use Rattle.tiff_page.specs.Laws.{HasSides, ChunksWithin, PlacedEach, UnitOfChunks}
-use Rattle.tiff_page.proofs.PassedChecks.{good, ok_is}
+use Rattle.tiff_page.specs.lemmas.PassedChecks.{good, ok_is}
 use Rattle.tiff_decode.specs.Machine.{Decoding}
 use Rattle.tiff_decode.specs.Outcome as outcome
 use Rattle.tiff_laws.specs.Whole.{IsChunkRead, chunk_byte_count}

@@ -6,7 +6,7 @@ use Rattle.std.proofs.lemmas.Bool.{cases_Bool, lt-ltb, ltb-true}
 use Rattle.std.proofs.lemmas.List.{length-replicate}
 use Rattle.std.proofs.lemmas.Nat.{mod-mul-add}
 use Rattle.std.proofs.Math.Nat.{mod-eq_of_lt}
-use Rattle.tiff_base.proofs.Common.{bind_ok}
+use Rattle.tiff_base.specs.lemmas.Common.{bind_ok}
 use Rattle.tiff_base.specs.declared.error.TiffError.{TiffError}
 use Rattle.tiff_base.specs.declared.error.TiffError.TheVariants.{UsageError}
 use Rattle.tiff_base.specs.declared.error.UsageError.TheVariants.{InvalidCodingUnit}
@@ -19,8 +19,8 @@ use Rattle.tiff_page.specs.Buffers.{planes_layout, unit_fault}
 use Rattle.tiff_page.specs.PixelCalls as pixels
 use Rattle.tiff_page.specs.PixelCalls.{Part, chunk_part, part_fault, room_fault, planes_used, bytes_with_region, fill_buffer}
 use Rattle.tiff_page.specs.Laws.{IsFirst, NoFault, FirstFault}
-use Rattle.tiff_page.proofs.Planes.{each_same}
-use Rattle.tiff_page.proofs.PassedChecks.{ok_is}
+use Rattle.tiff_page.specs.lemmas.Planes.{each_same}
+use Rattle.tiff_page.specs.lemmas.PassedChecks.{ok_is}
 use Rattle.tiff_decode.specs.Machine.{Decoding}
 use Rattle.tiff_decode.specs.Outcome as outcome
 use Rattle.tiff_laws.specs.Whole.{IsChunkRead, IsChunkRefused, chunk_byte_count}

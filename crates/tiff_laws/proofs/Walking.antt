@@ -15,12 +15,12 @@ use Rattle.tiff_base.specs.Field.{DirectoryRecord}
 use Rattle.tiff_base.specs.Header.{Header, header_at}
 use Rattle.tiff_ifd.specs.Chain.{IsChain, enter_at, link_from, unless_met}
 use Rattle.tiff_ifd.specs.TagLookup.{ok_or_fault}
-use Rattle.tiff_ifd.proofs.Chain.{the_chain, apart_chain, same_ok}
+use Rattle.tiff_ifd.specs.lemmas.Chain.{the_chain, apart_chain, same_ok}
 use Rattle.tiff_page.specs.Page.{PageRecord}
 use Rattle.tiff_decode.specs.Machine.{State, Decoding, Outcome, GivesOutcome, stays}
 use Rattle.tiff_decode.specs.Outcome.{decoder_of, chain_from, chain_of, first_directory, first_state, page_in, end_fault, offset_after, next_offset, next_outcome, next_image, enter, entry_outcome, with_page}
 use Rattle.tiff_decode.specs.DefaultLimits.{default_limits}
-use Rattle.tiff_decode.proofs.ChainPosition.{next_by, past_end, sought_by}
+use Rattle.tiff_decode.specs.lemmas.ChainPosition.{next_by, past_end, sought_by}
 use Rattle.tiff_laws.specs.Pages.{SameFile, IsAlong, PageAnswers, Arrives, GoesOn, IsAtFirst, WalkOpens, WalkSeeks, WalkGoesOn, WalkEnds, WalkMoves}
 
 abbrev Link : Type 0

@@ -5,7 +5,7 @@ use Rattle.std.specs.Result.{is_ok, IsOk}
 use Rattle.std.proofs.lemmas.Bool.{lt-ltb, le-ltb}
 use Rattle.std.proofs.lemmas.Nat.{mul-add-lt, div_below, mod_below, div-add-mod'}
 use Rattle.std.proofs.Math.Nat.{mul_comm, mul-le-mul, mul-le-mul_right}
-use Rattle.tiff_page.proofs.ChunkRows.{fewer_bytes}
+use Rattle.tiff_page.specs.lemmas.ChunkRows.{fewer_bytes}
 use Rattle.tiff_base.specs.declared.color.ColorType.{ColorType}
 use Rattle.tiff_base.specs.declared.error.TiffError.{TiffError}
 use Rattle.tiff_base.specs.declared.tags.ByteOrder.{ByteOrder}
@@ -21,7 +21,7 @@ use Rattle.tiff_page.specs.Buffers.{planes_layout}
 use Rattle.tiff_page.specs.PixelCalls as pixels
 use Rattle.tiff_page.specs.PixelCalls.{Part, image_part, chunk_part, part_fault, room_fault, planes_used, bytes_with_region, fill_buffer}
 use Rattle.tiff_page.specs.Laws.{HasSides, ChunkIsWithin, ChunksWithin, NoFault}
-use Rattle.tiff_page.proofs.PassedChecks.{ok_is}
+use Rattle.tiff_page.specs.lemmas.PassedChecks.{ok_is}
 use Rattle.tiff_decode.specs.Machine.{Decoding}
 use Rattle.tiff_decode.specs.Outcome as outcome
 use Rattle.tiff_laws.specs.Whole.{HasRoom, EachUsed, IsChunkRead, ReadWhereChunks, chunk_row, chunk_byte_count}

@@ -4,7 +4,7 @@ use Rattle.std.specs.Prelude.{Result, ◌&&◌, if◌then◌else◌, nat_lt, nat
 use Rattle.std.proofs.lemmas.Bool.{cases_lt, lt-ltb}
 use Rattle.std.proofs.lemmas.Nat.{mul-add-lt, div-mul-add, mod-mul-add, div_below}
 use Rattle.std.proofs.Math.Nat.{div-eq_of_lt, mod-eq_of_lt, div-mul-le_self, mul_assoc, mul_comm, mul-le-mul_right}
-use Rattle.tiff_base.proofs.Common.{bind_ok}
+use Rattle.tiff_base.specs.lemmas.Common.{bind_ok}
 use Rattle.tiff_base.specs.declared.color.ColorType.{ColorType}
 use Rattle.tiff_base.specs.declared.error.TiffError.{TiffError}
 use Rattle.tiff_base.specs.declared.error.TiffError.TheVariants.{FormatError, IoError, LimitsExceeded}
@@ -22,7 +22,7 @@ use Rattle.tiff_page.specs.Pixels.{Region, is_short, byte_at, region_byte, image
 use Rattle.tiff_page.specs.PixelCalls as pixels
 use Rattle.tiff_page.specs.PixelCalls.{Part, image_part, chunk_part, planes_used, bytes_with_region}
 use Rattle.tiff_page.specs.Laws.{HasSides, ChunkIsWithin, HasWholeRows, ChunksWithin, PlacedEach, WholeRows, ImageOfChunks}
-use Rattle.tiff_page.proofs.PassedChecks.{ok_is}
+use Rattle.tiff_page.specs.lemmas.PassedChecks.{ok_is}
 use Rattle.tiff_decode.specs.Outcome as outcome
 use Rattle.tiff_laws.specs.Whole.{IsPlacedIn, PlaneOfChunks, chunks_used, chunk_row, at_chunk, at_image}
 use Rattle.tiff_laws.proofs.Laid.{IsLaid, IsReadInto, laid, planes_laid, read_gives}

@@ -6,3 +6,4 @@ pub mod Samples
 pub mod Units
 pub mod Pages
 pub mod Costs
+pub mod lemmas

@@ -10,7 +10,7 @@ use Rattle.tiff_base.specs.declared.error.TiffError.TheVariants.{IoError}
 use Rattle.tiff_base.specs.declared.io.IoKind.TheVariants.{UnexpectedEof}
 use Rattle.tiff_base.specs.declared.tags.ByteOrder.{ByteOrder}
 use Rattle.tiff_base.specs.Answers.{IsCause}
-use Rattle.tiff_base.proofs.Causes.{cause_along}
+use Rattle.tiff_base.specs.lemmas.Causes.{cause_along}
 use Rattle.tiff_ifd.specs.declared.limits.Limits.{Limits}
 use Rattle.tiff_page.specs.Page.{PageRecord}
 use Rattle.tiff_page.specs.Counts.{parts, all_chunks}
@@ -23,14 +23,14 @@ use Rattle.tiff_page.specs.Pixels.{chunk_data, is_short, needed_of_row, stored_r
 use Rattle.tiff_page.specs.BufferPositions.{Writes, IsIn, in_rect, chunk_byte, chunk_of, plane_of, top_of, left_of, IsBefore, image_byte}
 use Rattle.tiff_page.specs.NumberBytes.{IsPut}
 use Rattle.tiff_page.specs.ChunkBands.{AreBanded, AreImageRows, PutsImageRows, WritesRows, WritesImageRows, rows_short}
-use Rattle.tiff_page.proofs.Covering.{left_is, width_is, row_is, len_in, covers, byte_is, chunk_bytes_some}
+use Rattle.tiff_page.specs.lemmas.Covering.{left_is, width_is, row_is, len_in, covers, byte_is, chunk_bytes_some}
 use Rattle.tiff_page.specs.Methods.{method_fault}
 use Rattle.tiff_page.specs.ReadablePage.{IsRead}
-use Rattle.tiff_page.proofs.Filling.{first_at, columns_in, is_formed, is_whole}
-use Rattle.tiff_page.proofs.Filling as filling
-use Rattle.tiff_page.proofs.Planes.{method_passed}
-use Rattle.tiff_page.proofs.PositionLaws.{chunks_within, cases_fault, all_ok, ok_all, first_of, parts_within, parts_cover, parts_some, planes_some}
-use Rattle.tiff_page.proofs.Rects.{writes_as, writes_more, writes_same}
+use Rattle.tiff_page.specs.lemmas.Filling.{first_at, columns_in, is_formed, is_whole}
+use Rattle.tiff_page.specs.lemmas.Filling as filling
+use Rattle.tiff_page.specs.lemmas.Planes.{method_passed}
+use Rattle.tiff_page.specs.lemmas.PositionLaws.{chunks_within, cases_fault, all_ok, ok_all, first_of, parts_within, parts_cover, parts_some, planes_some}
+use Rattle.tiff_page.specs.lemmas.Rects.{writes_as, writes_more, writes_same}
 
 -- ---- rows of a rectangle
 

@@ -1,14 +1,1 @@
-pub mod PositionLaws
-pub mod Planes
-pub mod Rects
-pub mod Covering
-pub mod ChunkRows
-pub mod Bands
-pub mod Filling
 pub mod ChunkBands
-pub mod Rows
-pub mod OutputRow
-pub mod NumberBytes
-pub mod Requests
-pub mod PassedChecks
-pub mod ChunkAlone

@@ -27,3 +27,4 @@ pub mod Samples
 pub mod Reach
 pub mod EarlyLaws
 pub mod ChunkAlone
+pub mod lemmas

@@ -41,7 +41,7 @@ pub(crate) fn all_planes(page: &Page, layout: PlaneLayout) -> BufferLayoutPrefer
 /// `MisalignedTileBoundaries` if chunks lie side by side and their rows aren't of whole bytes;
 /// `ChromaSubsampling` for YCbCr with fewer chroma samples; `LimitsExceeded` if all planes have
 /// 2^64 bytes or more. `sample_type` is `None` if the samples of the page have no number type.
-#[tactic(auto, using(crate::proofs::PassedChecks::laid_fault, crate::proofs::PassedChecks::layout_of_fault), unfolding(crate::specs::Buffers::image_buffer_layout))]
+#[tactic(auto, using(crate::specs::lemmas::PassedChecks::laid_fault, crate::specs::lemmas::PassedChecks::layout_of_fault), unfolding(crate::specs::Buffers::image_buffer_layout))]
 pub fn image_buffer_layout(page: &Page, alloc: Global) -> TiffResult<BufferLayoutPreference>
     ensures answer { AnswersWithoutSource (λ l. l) result (spec.image_buffer_layout (view.page page.now)) }
     ensures memory { WantsWhere (IsListFault (spec.image_buffer_layout (view.page page.now))) result }
@@ -71,7 +71,7 @@ fn rounded(bytes: usize, size: usize) -> TiffResult<usize>
 /// modulo the number of chunks of a plane. Returns the first of these errors: those of the layout,
 /// as `image_buffer_layout` does; `UnsupportedSampleDepth` or `UnsupportedSampleFormat` if the
 /// samples have no number type; `LimitsExceeded` for 2^63 bytes or more.
-#[tactic(auto, using(crate::proofs::PassedChecks::laid_fault, crate::proofs::PassedChecks::layout_of_fault), unfolding(crate::specs::Buffers::image_chunk_buffer_layout))]
+#[tactic(auto, using(crate::specs::lemmas::PassedChecks::laid_fault, crate::specs::lemmas::PassedChecks::layout_of_fault), unfolding(crate::specs::Buffers::image_chunk_buffer_layout))]
 pub fn image_chunk_buffer_layout(
     page: &Page,
     alloc: Global,
@@ -116,7 +116,7 @@ pub(crate) fn unit_fault(page: &Page, unit: u32) -> TiffResult<()>
 /// `image_chunk_buffer_layout`. For a planar page it is a buffer for all planes: returns first the
 /// errors of the layout, as `image_buffer_layout` does, then `InvalidCodingUnit(unit, chunks)` if
 /// the unit isn't below the number of chunks of a plane.
-#[tactic(auto, using(crate::proofs::PassedChecks::laid_fault, crate::proofs::PassedChecks::layout_of_fault), unfolding(crate::specs::Buffers::image_coding_unit_layout))]
+#[tactic(auto, using(crate::specs::lemmas::PassedChecks::laid_fault, crate::specs::lemmas::PassedChecks::layout_of_fault), unfolding(crate::specs::Buffers::image_coding_unit_layout))]
 pub fn image_coding_unit_layout(
     page: &Page,
     alloc: Global,

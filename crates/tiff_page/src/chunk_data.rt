@@ -57,7 +57,7 @@ fn pass_packed<R: Source>(source: &mut R, position: &mut PackBitsCursor, n: u64)
 impl ChunkCursor {
     /// Returns a cursor at the start of the data of `count` bytes at offset `at`, which are
     /// uncompressed or compressed by PackBits.
-    #[tactic(auto, using(crate::proofs::ChunkRows::unpacked_out))]
+    #[tactic(auto, using(crate::specs::lemmas::ChunkRows::unpacked_out))]
     pub fn new(method: CompressionMethod, at: u64, count: u64) -> Self
         requires { method_fault method ≡ Ok tt }
         ensures rest { (file : List ℕ) → bytes_left file result ≡ data_by_method file method at
@@ -130,7 +130,7 @@ impl ChunkCursor {
     }
 
     /// Skips `n` bytes, or all that are left if there are fewer.
-    #[tactic(auto, using(crate::proofs::ChunkRows::passed_end))]
+    #[tactic(auto, using(crate::specs::lemmas::ChunkRows::passed_end))]
     #[inline(always)]
     pub fn pass<R: Source>(&mut self, source: &mut R, n: u64) -> TiffResult<()>
         ensures kept { IsKept R.contents R.failures result source.old source.new }

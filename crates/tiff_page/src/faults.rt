@@ -151,7 +151,7 @@ pub fn limit_fault(limits: &Limits, size: usize, bytes: usize) -> TiffResult<()>
 }
 
 // Returns how many decompressed bytes the image needs of a chunk.
-#[tactic(auto, using(crate::proofs::Requests::rows_fit, crate::proofs::Requests::bytes_few))]
+#[tactic(auto, using(crate::specs::lemmas::Requests::rows_fit, crate::specs::lemmas::Requests::bytes_few))]
 fn needed_bytes(page: &Page, color: ColorType, index: u32) -> u128
     ensures value { result ≡ pixels.needed_bytes (view.page page.now) color index }
     ensures few { result < 2 ^ 89 }
@@ -164,7 +164,7 @@ fn needed_bytes(page: &Page, color: ColorType, index: u32) -> u128
 
 // Returns `IoError(UnexpectedEof)` if the source has fewer than `len` bytes from offset `at` on.
 // Reads the last of them.
-#[tactic(auto, using(crate::proofs::Requests::reached, crate::proofs::Requests::past_all))]
+#[tactic(auto, using(crate::specs::lemmas::Requests::reached, crate::specs::lemmas::Requests::past_all))]
 fn reach<R: Source>(source: &mut R, at: u64, len: u128) -> TiffResult<()>
     requires few { len < 2 ^ 89 }
     ensures kept { IsKept R.contents R.failures result source.old source.new }
@@ -185,7 +185,7 @@ fn reach<R: Source>(source: &mut R, at: u64, len: u128) -> TiffResult<()>
 /// Returns the first error of a chunk, as far as it is found before memory is allocated for its
 /// samples: an error of `form_fault`, or `IoError(UnexpectedEof)` if the source has too few
 /// bytes for what the chunk's data take at least. Reads at most one byte.
-#[tactic(auto, using(crate::proofs::Requests::counted_few, crate::proofs::Requests::counted_all, crate::proofs::Requests::least_few))]
+#[tactic(auto, using(crate::specs::lemmas::Requests::counted_few, crate::specs::lemmas::Requests::counted_all, crate::specs::lemmas::Requests::least_few))]
 pub(crate) fn check_first_chunk<R: Source>(
     page: &Page,
     limits: &Limits,

@@ -12,7 +12,7 @@ pub fn one_chunk()
 {}
 
 /// The rectangle of a chunk has at least one pixel, and lies within the image.
-#[tactic(auto, using(crate::proofs::PositionLaws::chunks_within))]
+#[tactic(auto, using(crate::specs::lemmas::PositionLaws::chunks_within))]
 pub fn chunks_within()
     ensures { ChunksWithin }
 {}
@@ -23,7 +23,7 @@ pub fn first_fault()
 {}
 
 /// Several chunks have no error exactly if none of them has one.
-#[tactic(auto, using(crate::proofs::PositionLaws::no_fault))]
+#[tactic(auto, using(crate::specs::lemmas::PositionLaws::no_fault))]
 pub fn no_fault()
     ensures { NoFault }
 {}
@@ -34,13 +34,13 @@ pub fn placed_each()
 {}
 
 /// The rows and the planes of a layout have at least one byte.
-#[tactic(auto, using(crate::proofs::Planes::some_bytes))]
+#[tactic(auto, using(crate::specs::lemmas::Planes::some_bytes))]
 pub fn some_bytes()
     ensures { SomeBytes }
 {}
 
 /// The rows of a chunk are parts of the rows of the image.
-#[tactic(auto, using(crate::proofs::ChunkRows::image_of_chunks))]
+#[tactic(auto, using(crate::specs::lemmas::ChunkRows::image_of_chunks))]
 pub fn image_of_chunks()
     ensures { ImageOfChunks }
 {}
@@ -51,27 +51,27 @@ pub fn whole_rows()
 {}
 
 /// A coding unit contains the chunk of each plane.
-#[tactic(auto, using(crate::proofs::ChunkRows::unit_of_chunks))]
+#[tactic(auto, using(crate::specs::lemmas::ChunkRows::unit_of_chunks))]
 pub fn unit_of_chunks()
     ensures { UnitOfChunks }
 {}
 
 /// If each byte of a row is complemented, each number of the row is complemented.
-#[tactic(auto, using(crate::proofs::Rows::complements_invert))]
+#[tactic(auto, using(crate::specs::lemmas::Rows::complements_invert))]
 pub fn complements_invert()
     ensures { ComplementsInvert }
 {}
 
 /// The bytes of a row of little-endian numbers are the bytes of these numbers, the least
 /// significant first.
-#[tactic(auto, using(crate::proofs::Rows::bytes_of_numbers))]
+#[tactic(auto, using(crate::specs::lemmas::Rows::bytes_of_numbers))]
 pub fn bytes_of_numbers()
     ensures { BytesOfNumbers }
 {}
 
 /// An error that is found before memory is allocated for samples is the error of the call that
 /// returns these samples.
-#[tactic(auto, using(crate::proofs::Requests::early_is_answered))]
+#[tactic(auto, using(crate::specs::lemmas::Requests::early_is_answered))]
 pub fn early_is_answered()
     ensures { EarlyIsAnswered }
 {}
@@ -83,7 +83,7 @@ pub fn page_has_passed()
 
 /// Of the lists of a page, a read of one chunk depends on the chunk's own offset and byte count, on
 /// how many chunks there are, and on what the color needs of the extra samples.
-#[tactic(auto, using(crate::proofs::ChunkAlone::chunk_alone))]
+#[tactic(auto, using(crate::specs::lemmas::ChunkAlone::chunk_alone))]
 pub fn chunk_alone()
     ensures { ChunkAlone }
 {}

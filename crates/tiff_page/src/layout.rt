@@ -83,7 +83,7 @@ pub(crate) fn chunks_across(page: &Page) -> u64
 }
 
 /// Returns the number of chunks of a plane.
-#[tactic(auto, using(crate::proofs::PositionLaws::plane_some, crate::proofs::PositionLaws::plane_few))]
+#[tactic(auto, using(crate::specs::lemmas::PositionLaws::plane_some, crate::specs::lemmas::PositionLaws::plane_few))]
 pub fn chunks_of_plane(page: &Page) -> u32
     ensures count { result ≡ rects.chunks_of_plane (view.page page.now) }
     ensures some { 0 < result }
@@ -94,7 +94,7 @@ pub fn chunks_of_plane(page: &Page) -> u32
 }
 
 /// Returns the rectangle of a chunk, clipped to the image.
-#[tactic(auto, using(crate::proofs::PositionLaws::parts_some, crate::proofs::PositionLaws::column_fits, crate::proofs::PositionLaws::row_fits, crate::proofs::PositionLaws::column_in, crate::proofs::PositionLaws::row_in), unfolding(crate::specs::Rect::rect))]
+#[tactic(auto, using(crate::specs::lemmas::PositionLaws::parts_some, crate::specs::lemmas::PositionLaws::column_fits, crate::specs::lemmas::PositionLaws::row_fits, crate::specs::lemmas::PositionLaws::column_in, crate::specs::lemmas::PositionLaws::row_in), unfolding(crate::specs::Rect::rect))]
 pub fn rect(page: &Page, index: u32) -> ChunkRect
     ensures wide { 0 < result.width }
     ensures high { 0 < result.height }
@@ -322,7 +322,7 @@ pub fn planes(page: &Page, color: ColorType) -> u16
     }
 }
 
-#[tactic(auto, using(crate::proofs::PositionLaws::bits_few, crate::proofs::PositionLaws::bits_fit))]
+#[tactic(auto, using(crate::specs::lemmas::PositionLaws::bits_few, crate::specs::lemmas::PositionLaws::bits_fit))]
 pub(crate) fn bits(width: u32, depth: u8, samples: u16) -> usize
     ensures value { result ≡ width * depth * samples }
     ensures few { result < 2 ^ 56 }
@@ -397,7 +397,7 @@ pub fn checked_byte_count(a: usize, b: usize) -> TiffResult<usize>
 /// rows up to the stored height of a chunk, have 2^64 bytes or more; `MisalignedTileBoundaries` if
 /// chunks lie side by side and their rows aren't of whole bytes; `ChromaSubsampling` for YCbCr with
 /// fewer chroma samples.
-#[tactic(auto, using(crate::proofs::Planes::some_row, crate::proofs::Planes::some_plane), unfolding(crate::specs::Layout::layout_of))]
+#[tactic(auto, using(crate::specs::lemmas::Planes::some_row, crate::specs::lemmas::Planes::some_plane), unfolding(crate::specs::Layout::layout_of))]
 pub fn layout_of(page: &Page, alloc: Global, width: u32, height: u32) -> TiffResult<PlaneLayout>
     ensures rows { 0 < width → IfOk result (λ l. 0 < l.row_bytes) }
     ensures plane { 0 < width → 0 < height → IfOk result (λ l. 0 < l.plane_stride) }

@@ -1,5 +1,5 @@
 //! Lists of numbers into which rows of bytes are written.
-#![tactic(auto, using(crate::proofs::NumberBytes::bytes_1, crate::proofs::NumberBytes::bytes_2, crate::proofs::NumberBytes::bytes_4, crate::proofs::NumberBytes::bytes_8,), unfolding(tiff_base::specs::Number::number))]
+#![tactic(auto, using(crate::specs::lemmas::NumberBytes::bytes_1, crate::specs::lemmas::NumberBytes::bytes_2, crate::specs::lemmas::NumberBytes::bytes_4, crate::specs::lemmas::NumberBytes::bytes_8,), unfolding(tiff_base::specs::Number::number))]
 
 ghost use Rattle.std.proofs.Common.{refl, inl, inr};
 ghost use Rattle.std.specs.Int.{div_ceil, w8, w16, w32, w64, cast_unsigned};
@@ -257,7 +257,7 @@ impl Number<8> for i64 {
 }
 
 /// Grows a list to `count` numbers by zeros, if it is shorter.
-#[tactic(auto, using(crate::proofs::NumberBytes::zeros_behind, crate::proofs::NumberBytes::no_zeros_behind))]
+#[tactic(auto, using(crate::specs::lemmas::NumberBytes::zeros_behind, crate::specs::lemmas::NumberBytes::no_zeros_behind))]
 pub(crate) fn grow<T: Number<N>, const N: usize>(
     numbers: &mut Vec<T>,
     count: usize,
@@ -286,7 +286,7 @@ fn put_front<T: Number<N>, const N: usize>(numbers: &mut [T], row: &[u8])
 }
 
 // Writes a byte at a position among the bytes of numbers.
-#[tactic(auto, using(crate::proofs::NumberBytes::number_there, crate::proofs::NumberBytes::byte_put))]
+#[tactic(auto, using(crate::specs::lemmas::NumberBytes::number_there, crate::specs::lemmas::NumberBytes::byte_put))]
 fn put_byte<T: Number<N>, const N: usize>(numbers: &mut [T], at: usize, byte: u8)
     requires some { 0 < N }
     requires room { at < length (bytes_in N (map T.bits numbers.old)) }
@@ -299,7 +299,7 @@ fn put_byte<T: Number<N>, const N: usize>(numbers: &mut [T], at: usize, byte: u8
 }
 
 // Writes the bytes of a row one by one.
-#[tactic(auto, using(crate::proofs::NumberBytes::none_put, crate::proofs::NumberBytes::put_more))]
+#[tactic(auto, using(crate::specs::lemmas::NumberBytes::none_put, crate::specs::lemmas::NumberBytes::put_more))]
 fn put_bytes<T: Number<N>, const N: usize>(numbers: &mut [T], at: usize, row: &[u8])
     requires some { 0 < N }
     requires room { at + length row.now ≤ length (bytes_in N (map T.bits numbers.old)) }
@@ -313,7 +313,7 @@ fn put_bytes<T: Number<N>, const N: usize>(numbers: &mut [T], at: usize, row: &[
 }
 
 /// Writes a row at a position among the bytes of numbers, whole numbers at once.
-#[tactic(auto, using(crate::proofs::NumberBytes::numbers_fit))]
+#[tactic(auto, using(crate::specs::lemmas::NumberBytes::numbers_fit))]
 pub(crate) fn put_row<T: Number<N>, const N: usize>(numbers: &mut [T], at: usize, row: &[u8])
     requires some { 0 < N }
     requires room { at + length row.now ≤ length (bytes_in N (map T.bits numbers.old)) }
@@ -333,7 +333,7 @@ pub(crate) fn put_row<T: Number<N>, const N: usize>(numbers: &mut [T], at: usize
 const PIECE: usize = 4096;
 
 /// Whether a list of numbers has `at` bytes.
-#[tactic(auto, using(crate::proofs::NumberBytes::ends_there, crate::proofs::NumberBytes::ends_back))]
+#[tactic(auto, using(crate::specs::lemmas::NumberBytes::ends_there, crate::specs::lemmas::NumberBytes::ends_back))]
 pub(crate) fn ends_at<T: Number<N>, const N: usize>(numbers: &[T], at: usize) -> bool
     requires some { 0 < N }
     ensures { IsTrue result ↔ (length (bytes_in N (map T.bits numbers.now)) ≡ at) }
@@ -344,7 +344,7 @@ pub(crate) fn ends_at<T: Number<N>, const N: usize>(numbers: &[T], at: usize) ->
 // Returns a list, which has room for them, with the numbers of a row of whole numbers after it. The
 // list is passed by value, so that LLVM keeps its address and its length in registers and vectorizes
 // the loop: a list behind a reference is read and written again for each number.
-#[tactic(auto, using(crate::proofs::NumberBytes::pushed_more, crate::proofs::NumberBytes::numbers_behind))]
+#[tactic(auto, using(crate::specs::lemmas::NumberBytes::pushed_more, crate::specs::lemmas::NumberBytes::numbers_behind))]
 fn push_numbers<T: Number<N>, const N: usize>(numbers: Vec<T>, row: &[u8]) -> Vec<T>
     requires some { 0 < N }
     requires whole { length row.now / N * N ≡ length row.now }
@@ -386,7 +386,7 @@ fn push_row<T: Number<N>, const N: usize>(
 }
 
 /// Writes a row at a position among the bytes of numbers. A list that is too short grows by zeros.
-#[tactic(auto, using(crate::proofs::NumberBytes::row_pushed))]
+#[tactic(auto, using(crate::specs::lemmas::NumberBytes::row_pushed))]
 pub(crate) fn append_row<T: Number<N>, const N: usize>(
     numbers: &mut Vec<T>,
     at: usize,

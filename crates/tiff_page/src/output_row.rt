@@ -231,7 +231,7 @@ impl RowScratch {
 
 impl RowFormat<'_> {
     // Reads the next row into a buffer, if this needs the whole stored row.
-    #[tactic(auto, using(crate::proofs::ChunkRows::whole_taken, crate::proofs::ChunkRows::whole_cause))]
+    #[tactic(auto, using(crate::specs::lemmas::ChunkRows::whole_taken, crate::specs::lemmas::ChunkRows::whole_cause))]
     #[inline(always)]
     fn read_whole_row<R: Source>(
         &self,
@@ -265,7 +265,7 @@ impl RowFormat<'_> {
 
     /// Reads the next bytes into a buffer as they are output, if this needs no whole stored rows.
     /// Numbers that are byte-swapped come by way of a scratch buffer.
-    #[tactic(auto, using(crate::proofs::ChunkRows::row_taken, crate::proofs::ChunkRows::row_cause))]
+    #[tactic(auto, using(crate::specs::lemmas::ChunkRows::row_taken, crate::specs::lemmas::ChunkRows::row_cause))]
     #[inline(always)]
     pub(crate) fn read_finished<R: Source>(
         &self,

@@ -71,7 +71,7 @@ fn stride_fault(stride: usize, row_bytes: usize) -> TiffResult<()>
 }
 
 // Returns how many whole planes a slice of `len` bytes holds.
-#[tactic(auto, using(crate::proofs::Planes::whole_planes, crate::proofs::Planes::plane_held))]
+#[tactic(auto, using(crate::specs::lemmas::Planes::whole_planes, crate::specs::lemmas::Planes::plane_held))]
 fn planes_used(page: &Page, layout: PlaneLayout, len: usize) -> u16
     requires plane { 0 < layout.plane_stride }
     requires some { 0 < layouts.planes page.now.planar layout.color }
@@ -85,7 +85,7 @@ fn planes_used(page: &Page, layout: PlaneLayout, len: usize) -> u16
 }
 
 // Returns the layout of a chunk as a part of its page.
-#[tactic(auto, using(crate::proofs::Planes::colored, crate::proofs::Planes::columns, crate::proofs::Planes::stride))]
+#[tactic(auto, using(crate::specs::lemmas::Planes::colored, crate::specs::lemmas::Planes::columns, crate::specs::lemmas::Planes::stride))]
 fn chunk_layout(page: &Page, alloc: Global, index: u32) -> TiffResult<PlaneLayout>
     ensures answer { AnswersWithoutSource view.layout result
         (buffers.planes_layout (view.page page.now) (rects.rect (view.page page.now) index).width
@@ -104,7 +104,7 @@ fn chunk_layout(page: &Page, alloc: Global, index: u32) -> TiffResult<PlaneLayou
 }
 
 // Returns how many bytes the rows of a chunk take if they are `stride` bytes apart.
-#[tactic(auto, using(crate::proofs::Planes::height_within, crate::proofs::Planes::rows_fit))]
+#[tactic(auto, using(crate::specs::lemmas::Planes::height_within, crate::specs::lemmas::Planes::rows_fit))]
 fn rows_len(page: &Page, index: u32, stride: usize) -> usize
     requires wide { stride * page.now.chunk_height < 2 ^ 64 }
     ensures value { result ≡ stride * (rects.rect (view.page page.now) index).height }
@@ -263,7 +263,7 @@ impl PageReader<'_> {
     }
 
     // Returns the numbers of an image or a chunk whose samples have a number type of `N` bytes.
-    #[tactic(auto, using(crate::proofs::Requests::portion_early))]
+    #[tactic(auto, using(crate::specs::lemmas::Requests::portion_early))]
     fn read_as<R: Source, T: Number<N>, const N: usize>(
         &self,
         source: &mut R,
@@ -327,7 +327,7 @@ impl PageReader<'_> {
     }
 
     /// Returns the samples of an image, row by row; of a planar image, those of its first plane.
-    #[tactic(auto, using(crate::proofs::Planes::image_is_first_plane, crate::proofs::PassedChecks::layout_wanted))]
+    #[tactic(auto, using(crate::specs::lemmas::Planes::image_is_first_plane, crate::specs::lemmas::PassedChecks::layout_wanted))]
     pub fn read_image<R: Source>(&self, source: &mut R) -> TiffResult<Samples>
         ensures kept { IsKept R.contents R.failures result source.old source.new }
         ensures memory { AllocatesAfter (image_early (R.contents source.old).bytes
@@ -346,7 +346,7 @@ impl PageReader<'_> {
 
     /// Returns the samples of all planes of an image, with the layout of all planes. If all planes
     /// aren't within `decoding_buffer_size`, returns the samples of the first plane only.
-    #[tactic(auto, using(crate::proofs::PassedChecks::layout_wanted), unfolding(crate::specs::PixelCalls::read_image_to_buffer))]
+    #[tactic(auto, using(crate::specs::lemmas::PassedChecks::layout_wanted), unfolding(crate::specs::PixelCalls::read_image_to_buffer))]
     pub fn read_image_to_buffer<R: Source>(
         &self,
         source: &mut R,
@@ -373,7 +373,7 @@ impl PageReader<'_> {
     /// Reads an image into a slice: as many whole planes as the slice holds, one after another. The
     /// bytes after them stay unchanged. Returns `InsufficientOutputBufferSize` if the slice has
     /// fewer bytes than a plane.
-    #[tactic(auto, using(crate::proofs::PassedChecks::may_want, crate::proofs::PassedChecks::layout_wanted), unfolding(crate::specs::PixelCalls::read_image_bytes))]
+    #[tactic(auto, using(crate::specs::lemmas::PassedChecks::may_want, crate::specs::lemmas::PassedChecks::layout_wanted), unfolding(crate::specs::PixelCalls::read_image_bytes))]
     pub fn read_image_bytes<R: Source>(&self, source: &mut R, buf: &mut [u8]) -> TiffResult<()>
         ensures kept { IsKept R.contents R.failures result source.old source.new }
         ensures memory { AllocatesAfter (image_bytes_early (view.page self.now.page.now)
@@ -395,7 +395,7 @@ impl PageReader<'_> {
 
     /// Returns the samples of a chunk, in rows of its own width in the image. Returns
     /// `InconsistentSizesEncountered` if the index is past the list of chunks.
-    #[tactic(auto, using(crate::proofs::PassedChecks::layout_wanted), unfolding(crate::specs::PixelCalls::read_chunk))]
+    #[tactic(auto, using(crate::specs::lemmas::PassedChecks::layout_wanted), unfolding(crate::specs::PixelCalls::read_chunk))]
     pub fn read_chunk<R: Source>(&self, source: &mut R, index: u32) -> TiffResult<Samples>
         ensures kept { IsKept R.contents R.failures result source.old source.new }
         ensures memory { AllocatesAfter (chunk_early (R.contents source.old).bytes
@@ -414,7 +414,7 @@ impl PageReader<'_> {
     /// Reads a chunk into a slice, in rows of its own width in the image. The bytes after the chunk
     /// stay unchanged. Returns `InsufficientOutputBufferSize` if the slice has fewer bytes than the
     /// chunk, and `InconsistentSizesEncountered` if the index is past the list of chunks.
-    #[tactic(auto, using(crate::proofs::PassedChecks::may_want, crate::proofs::PassedChecks::layout_wanted), unfolding(crate::specs::PixelCalls::read_chunk_bytes))]
+    #[tactic(auto, using(crate::specs::lemmas::PassedChecks::may_want, crate::specs::lemmas::PassedChecks::layout_wanted), unfolding(crate::specs::PixelCalls::read_chunk_bytes))]
     pub fn read_chunk_bytes<R: Source>(
         &self,
         source: &mut R,
@@ -441,7 +441,7 @@ impl PageReader<'_> {
     /// Returns `InsufficientOutputRowStride` if the stride is below the number of bytes of a row;
     /// `LimitsExceeded` if the stored height of a chunk in such rows has 2^64 bytes or more;
     /// `InconsistentSizesEncountered` if the index is past the list of chunks.
-    #[tactic(auto, using(crate::proofs::PassedChecks::layout_wanted), unfolding(crate::specs::PixelCalls::read_chunk_to_buffer))]
+    #[tactic(auto, using(crate::specs::lemmas::PassedChecks::layout_wanted), unfolding(crate::specs::PixelCalls::read_chunk_to_buffer))]
     pub fn read_chunk_to_buffer<R: Source>(
         &self,
         source: &mut R,
@@ -470,7 +470,7 @@ impl PageReader<'_> {
     /// slice holds, one after another. The bytes after them stay unchanged. Returns
     /// `InvalidCodingUnit(unit, chunks)` if the unit isn't below the number of chunks of a plane,
     /// and `InsufficientOutputBufferSize` if the slice has fewer bytes than a chunk.
-    #[tactic(auto, using(crate::proofs::PassedChecks::may_want, crate::proofs::PassedChecks::layout_wanted), unfolding(crate::specs::PixelCalls::read_coding_unit_bytes))]
+    #[tactic(auto, using(crate::specs::lemmas::PassedChecks::may_want, crate::specs::lemmas::PassedChecks::layout_wanted), unfolding(crate::specs::PixelCalls::read_coding_unit_bytes))]
     pub fn read_coding_unit_bytes<R: Source>(
         &self,
         source: &mut R,

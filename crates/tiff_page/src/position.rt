@@ -15,31 +15,31 @@ pub fn chunk_written()
 {}
 
 /// After the chunks before it, a chunk of an image is written.
-#[tactic(auto, using(crate::proofs::Covering::chunks_written))]
+#[tactic(auto, using(crate::specs::lemmas::Covering::chunks_written))]
 pub fn chunks_written()
     ensures { ChunksWritten }
 {}
 
 /// A chunk is written in all planes.
-#[tactic(auto, using(crate::proofs::Covering::planes_written))]
+#[tactic(auto, using(crate::specs::lemmas::Covering::planes_written))]
 pub fn planes_written()
     ensures { PlanesWritten }
 {}
 
 /// At the start, no chunk is written.
-#[tactic(auto, using(crate::proofs::Covering::none_written))]
+#[tactic(auto, using(crate::specs::lemmas::Covering::none_written))]
 pub fn none_written()
     ensures { NoneWritten }
 {}
 
 /// The chunks of an image fill its positions.
-#[tactic(auto, using(crate::proofs::Covering::image_written))]
+#[tactic(auto, using(crate::specs::lemmas::Covering::image_written))]
 pub fn image_written()
     ensures { ImageWritten }
 {}
 
 /// The bytes of an output row of a chunk depend only on the stored bytes of that row.
-#[tactic(auto, using(crate::proofs::ChunkRows::row_handed))]
+#[tactic(auto, using(crate::specs::lemmas::ChunkRows::row_handed))]
 pub fn row_handed()
     ensures { RowHanded }
 {}
@@ -50,13 +50,13 @@ pub fn unit_plane_written()
 {}
 
 /// At the start, no plane is written.
-#[tactic(auto, using(crate::proofs::Covering::no_plane_written))]
+#[tactic(auto, using(crate::specs::lemmas::Covering::no_plane_written))]
 pub fn no_plane_written()
     ensures { NoPlaneWritten }
 {}
 
 /// A chunk, or the chunk of each plane, fills its positions.
-#[tactic(auto, using(crate::proofs::Covering::unit_written))]
+#[tactic(auto, using(crate::specs::lemmas::Covering::unit_written))]
 pub fn unit_written()
     ensures { UnitWritten }
 {}

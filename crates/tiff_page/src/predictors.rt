@@ -12,7 +12,7 @@ use tiff_base::tags::ByteOrder;
 
 // Each function byte-swaps the big-endian number of two, four or eight bytes at one position of a
 // row.
-#[tactic(auto, using(crate::proofs::Rows::turns_2))]
+#[tactic(auto, using(crate::specs::lemmas::Rows::turns_2))]
 fn turn_u16(row: &[u8], k: usize, out: &mut [u8])
     requires row { (k + 1) * 2 ≤ length row.now }
     requires out { length out.old ≡ length row.now }
@@ -23,7 +23,7 @@ fn turn_u16(row: &[u8], k: usize, out: &mut [u8])
     out[at..at + 2].copy_from_slice(&number.to_le_bytes());
 }
 
-#[tactic(auto, using(crate::proofs::Rows::turns_4))]
+#[tactic(auto, using(crate::specs::lemmas::Rows::turns_4))]
 fn turn_u32(row: &[u8], k: usize, out: &mut [u8])
     requires row { (k + 1) * 4 ≤ length row.now }
     requires out { length out.old ≡ length row.now }
@@ -34,7 +34,7 @@ fn turn_u32(row: &[u8], k: usize, out: &mut [u8])
     out[at..at + 4].copy_from_slice(&number.to_le_bytes());
 }
 
-#[tactic(auto, using(crate::proofs::Rows::turns_8))]
+#[tactic(auto, using(crate::specs::lemmas::Rows::turns_8))]
 fn turn_u64(row: &[u8], k: usize, out: &mut [u8])
     requires row { (k + 1) * 8 ≤ length row.now }
     requires out { length out.old ≡ length row.now }
@@ -90,7 +90,7 @@ pub fn to_little_endian(row: &[u8], size: usize, out: &mut [u8])
 }
 
 // Each function adds a number of one, two, four or eight bytes to another one of the row.
-#[tactic(auto, using(crate::proofs::Rows::adds_1))]
+#[tactic(auto, using(crate::specs::lemmas::Rows::adds_1))]
 fn add_byte(row: &mut [u8], from: usize, to: usize)
     requires before { from < to }
     requires within { (to + 1) * 1 ≤ length row.old }
@@ -99,7 +99,7 @@ fn add_byte(row: &mut [u8], from: usize, to: usize)
     row[to] = row[from].wrapping_add(row[to]);
 }
 
-#[tactic(auto, using(crate::proofs::Rows::adds_2))]
+#[tactic(auto, using(crate::specs::lemmas::Rows::adds_2))]
 fn add_u16(row: &mut [u8], from: usize, to: usize)
     requires before { from < to }
     requires within { (to + 1) * 2 ≤ length row.old }
@@ -111,7 +111,7 @@ fn add_u16(row: &mut [u8], from: usize, to: usize)
     row[at..at + 2].copy_from_slice(&sum.to_le_bytes());
 }
 
-#[tactic(auto, using(crate::proofs::Rows::adds_4))]
+#[tactic(auto, using(crate::specs::lemmas::Rows::adds_4))]
 fn add_u32(row: &mut [u8], from: usize, to: usize)
     requires before { from < to }
     requires within { (to + 1) * 4 ≤ length row.old }
@@ -123,7 +123,7 @@ fn add_u32(row: &mut [u8], from: usize, to: usize)
     row[at..at + 4].copy_from_slice(&sum.to_le_bytes());
 }
 
-#[tactic(auto, using(crate::proofs::Rows::adds_8))]
+#[tactic(auto, using(crate::specs::lemmas::Rows::adds_8))]
 fn add_u64(row: &mut [u8], from: usize, to: usize)
     requires before { from < to }
     requires within { (to + 1) * 8 ≤ length row.old }

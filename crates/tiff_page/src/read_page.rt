@@ -40,7 +40,7 @@ fn sides(width: u32, height: u32) -> TiffResult<(u32, u32)>
 }
 
 /// Reads the width and the height, in pixels.
-#[tactic(auto, using(crate::proofs::PassedChecks::required_found), unfolding(crate::specs::Checks::size_in))]
+#[tactic(auto, using(crate::specs::lemmas::PassedChecks::required_found), unfolding(crate::specs::Checks::size_in))]
 pub fn read_size<T: Tags>(tags: &mut T, alloc: Global) -> TiffResult<(u32, u32)>
     ensures kept { IsKept T.contents T.failures result tags.old tags.new }
     ensures answer { AnswersFound (λ s. s) result (checks.size_in (T.contents tags.old).look)
@@ -135,7 +135,7 @@ fn within_samples(samples: u16, extra: Vec<ExtraSamples>) -> TiffResult<ExtraSam
 }
 
 /// Reads what the extra samples are.
-#[tactic(auto, using(crate::proofs::PassedChecks::number_found), unfolding(crate::specs::Checks::extra_in))]
+#[tactic(auto, using(crate::specs::lemmas::PassedChecks::number_found), unfolding(crate::specs::Checks::extra_in))]
 pub fn read_extra<T: Tags>(tags: &mut T, alloc: Global, samples: u16) -> TiffResult<ExtraSampleList>
     ensures kept { IsKept T.contents T.failures result tags.old tags.new }
     ensures answer { AnswersFound (λ s. s) result (checks.extra_in (T.contents tags.old).look samples)
@@ -216,7 +216,7 @@ fn one_format(alloc: Global, numbers: &[u16]) -> TiffResult<SampleFormat>
 }
 
 /// Reads the sample format: what the numbers of samples are.
-#[tactic(auto, using(crate::proofs::PassedChecks::number_found), unfolding(crate::specs::Checks::format_in))]
+#[tactic(auto, using(crate::specs::lemmas::PassedChecks::number_found), unfolding(crate::specs::Checks::format_in))]
 pub fn read_format<T: Tags>(tags: &mut T, alloc: Global) -> TiffResult<SampleFormat>
     ensures kept { IsKept T.contents T.failures result tags.old tags.new }
     ensures answer { AnswersFound (λ s. s) result (checks.format_in (T.contents tags.old).look)
@@ -251,7 +251,7 @@ fn one_depth(samples: u16, bits: Vec<u8>) -> TiffResult<u8>
 }
 
 /// Reads how many bits a sample has.
-#[tactic(auto, using(crate::proofs::PassedChecks::number_found), unfolding(crate::specs::Checks::depth_in))]
+#[tactic(auto, using(crate::specs::lemmas::PassedChecks::number_found), unfolding(crate::specs::Checks::depth_in))]
 pub fn read_depth<T: Tags>(tags: &mut T, alloc: Global, samples: u16) -> TiffResult<u8>
     ensures kept { IsKept T.contents T.failures result tags.old tags.new }
     ensures answer { AnswersFound (λ s. s) result (checks.depth_in (T.contents tags.old).look samples)
@@ -325,7 +325,7 @@ fn check_pair(sizes: &[u16]) -> TiffResult<(u16, u16)>
 }
 
 /// Reads the chroma subsampling: how many pixels share a chroma sample, across and down.
-#[tactic(auto, using(crate::proofs::PassedChecks::number_found), unfolding(crate::specs::Checks::subsampling_in))]
+#[tactic(auto, using(crate::specs::lemmas::PassedChecks::number_found), unfolding(crate::specs::Checks::subsampling_in))]
 pub fn read_subsampling<T: Tags>(tags: &mut T, alloc: Global) -> TiffResult<(u16, u16)>
     ensures kept { IsKept T.contents T.failures result tags.old tags.new }
     ensures answer { AnswersFound (λ s. s) result (checks.subsampling_in (T.contents tags.old).look)
@@ -424,7 +424,7 @@ fn some_rows(rows: u32) -> TiffResult<u32>
 }
 
 /// Reads the strips of a page.
-#[tactic(auto, using(crate::proofs::PassedChecks::required_found), unfolding(crate::specs::Checks::strips_in))]
+#[tactic(auto, using(crate::specs::lemmas::PassedChecks::required_found), unfolding(crate::specs::Checks::strips_in))]
 pub fn read_strips<T: Tags>(
     tags: &mut T,
     alloc: Global,
@@ -471,7 +471,7 @@ fn some_side(size: u32, tag: Tag) -> TiffResult<u32>
 }
 
 /// Reads the tiles of a page.
-#[tactic(auto, using(crate::proofs::PassedChecks::required_found), unfolding(crate::specs::Checks::tiles_in))]
+#[tactic(auto, using(crate::specs::lemmas::PassedChecks::required_found), unfolding(crate::specs::Checks::tiles_in))]
 pub fn read_tiles<T: Tags>(
     tags: &mut T,
     alloc: Global,
@@ -518,7 +518,7 @@ pub fn planes_of(planar: PlanarConfiguration, samples: u16) -> u16
 
 /// Returns the page that the tags define. Returns `OutOfMemory` only if the tags have a width that
 /// is within the limits and the source.
-#[tactic(auto, using(crate::proofs::PassedChecks::size_found), unfolding(crate::specs::Checks::page_of))]
+#[tactic(auto, using(crate::specs::lemmas::PassedChecks::size_found), unfolding(crate::specs::Checks::page_of))]
 pub fn read_page<T: Tags>(tags: &mut T, alloc: Global) -> TiffResult<Page>
     ensures kept { IsKept T.contents T.failures result tags.old tags.new }
     ensures answer { AnswersFound view.page result (checks.page_of (T.contents tags.old).look)

@@ -173,7 +173,7 @@ impl<'a> RowSink for ByteSlice<'a> {
         Ok(())
     }
 
-    #[tactic(auto, using(crate::proofs::NumberBytes::put_in_place))]
+    #[tactic(auto, using(crate::specs::lemmas::NumberBytes::put_in_place))]
     #[inline(always)]
     fn row<R: Source>(
         &mut self,
@@ -185,7 +185,7 @@ impl<'a> RowSink for ByteSlice<'a> {
         next.format.read_row(source, cursor, self.scratch, row)
     }
 
-    #[tactic(auto, using(crate::proofs::NumberBytes::put_in_place))]
+    #[tactic(auto, using(crate::specs::lemmas::NumberBytes::put_in_place))]
     #[inline(always)]
     fn rows<R: Source>(
         &mut self,
@@ -259,7 +259,7 @@ impl RowSink for ByteList {
 
     const GROWS: bool = true;
 
-    #[tactic(auto, using(crate::proofs::NumberBytes::plain_zeros_behind))]
+    #[tactic(auto, using(crate::specs::lemmas::NumberBytes::plain_zeros_behind))]
     fn zeros_to(&mut self, len: usize) -> Result<(), AllocError> {
         grow::<u8, 1>(&mut self.bytes, len)
     }
@@ -355,12 +355,12 @@ impl<T: Number<N>, const N: usize> RowSink for NumberList<T, N> {
 
     const GROWS: bool = true;
 
-    #[tactic(auto, using(crate::proofs::Rows::some_size))]
+    #[tactic(auto, using(crate::specs::lemmas::Rows::some_size))]
     fn zeros_to(&mut self, len: usize) -> Result<(), AllocError> {
         grow(&mut self.numbers, len.div_ceil(N))
     }
 
-    #[tactic(auto, using(crate::proofs::NumberBytes::put_from_room, crate::proofs::Rows::some_size))]
+    #[tactic(auto, using(crate::specs::lemmas::NumberBytes::put_from_room, crate::specs::lemmas::Rows::some_size))]
     #[inline(always)]
     fn row<R: Source>(
         &mut self,
@@ -375,7 +375,7 @@ impl<T: Number<N>, const N: usize> RowSink for NumberList<T, N> {
         Ok(())
     }
 
-    #[tactic(auto, using(crate::proofs::Rows::some_size))]
+    #[tactic(auto, using(crate::specs::lemmas::Rows::some_size))]
     #[inline(always)]
     fn rows<R: Source>(
         &mut self,
@@ -390,7 +390,7 @@ impl<T: Number<N>, const N: usize> RowSink for NumberList<T, N> {
         Ok(())
     }
 
-    #[tactic(auto, using(crate::proofs::Rows::some_size))]
+    #[tactic(auto, using(crate::specs::lemmas::Rows::some_size))]
     fn place(&mut self, at: usize, row: &[u8]) -> Result<(), AllocError> {
         append_row(&mut self.numbers, at, row)
     }

@@ -13,7 +13,7 @@ use Rattle.tiff_page.specs.Page.{PageRecord}
 use Rattle.tiff_decode.specs.Machine.{State, Decoding, Outcome, FollowsBut, Follows, GivesOutcome, keeps_state}
 use Rattle.tiff_decode.specs.Outcome.{chain_of, next_image, page_in, seek_to_image}
 use Rattle.tiff_laws.specs.Pages.{IsAlong, PageAnswers, Arrives, EndsBehind, GoesOn, ListedAlong, WalkSeeks, WalkGoesOn, WalkMoves}
-use Rattle.tiff_laws.proofs.Listed.{listed_first, listed_next, listed_fewer, listed_all}
+use Rattle.tiff_laws.specs.lemmas.Listed.{listed_first, listed_next, listed_fewer, listed_all}
 use Rattle.tiff_pages.specs.declared.pages.PageItem.{PageItem}
 use Rattle.tiff_pages.specs.Pages.{HasItsPage, IsOfFile, WasOnItsWay, facts_at, facts_of, facts_told, item_at, pages_of, state_along, times_on, times_to_end}
 

@@ -15,7 +15,7 @@ use Rattle.tiff_page.specs.Page.{PageRecord}
 use Rattle.tiff_decode.specs.Machine.{Decoding, Outcome, Follows, GivesOutcome}
 use Rattle.tiff_decode.specs.Outcome.{chain_of, page_in, seek_to_image, show_directory, show_outcome, with_page}
 use Rattle.tiff_laws.specs.Pages.{Arrives, PageAnswers, SameFile, WalkSeeks, page_at}
-use Rattle.tiff_laws.proofs.Listed.{take_next}
+use Rattle.tiff_laws.specs.lemmas.Listed.{take_next}
 use Rattle.tiff_pages.specs.declared.pages.PageList.{PageList}
 use Rattle.tiff_pages.specs.Pages.{IsOfFile, Pages, pages_in, pages_of, state_along, times_to_end}
 use Rattle.tiff_pages.specs.declared.check.ImageSum.{ImageSum}

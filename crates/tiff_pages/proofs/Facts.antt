@@ -6,7 +6,7 @@ use Rattle.tiff_base.specs.declared.tags.CompressionMethod.{CompressionMethod}
 use Rattle.tiff_base.specs.declared.tags.Tag.TheVariants.{Compression}
 use Rattle.tiff_base.specs.Answers.{◌>>=◌, Gives, IsCause}
 use Rattle.tiff_base.specs.Tags.{method_of}
-use Rattle.tiff_base.proofs.Causes.{cause_along}
+use Rattle.tiff_base.specs.lemmas.Causes.{cause_along}
 use Rattle.tiff_ifd.specs.declared.value.Value.{Value}
 use Rattle.tiff_ifd.specs.PlainValue.{PlainValue}
 use Rattle.tiff_ifd.specs.Into.{into_u16}

@@ -1,7 +1,6 @@
 mod Facts
 mod Along
 pub mod Kept
-pub mod PageReads
 mod Checked
 mod Sums
 mod NoPages
@@ -9,6 +8,4 @@ mod Shown
 mod Read
 mod Rooted
 mod Stepped
-pub mod Planned
 pub mod PlanOf
-pub mod SeenFiles

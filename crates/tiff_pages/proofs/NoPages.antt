@@ -6,11 +6,11 @@ use Rattle.std.specs.Result.{result_err}
 use Rattle.tiff_base.specs.declared.error.TiffError.{TiffError}
 use Rattle.tiff_base.specs.declared.tags.IfdPointer.{IfdPointer}
 use Rattle.tiff_ifd.specs.Chain.{IsChain, link_from}
-use Rattle.tiff_ifd.proofs.Chain.{the_chain}
+use Rattle.tiff_ifd.specs.lemmas.Chain.{the_chain}
 use Rattle.tiff_decode.specs.Machine.{State, Decoding, Outcome, Follows, GivesOutcome}
 use Rattle.tiff_decode.specs.Opened.{rewound}
 use Rattle.tiff_decode.specs.Outcome.{chain_of, end_fault, last_offset, not_found, seek_past_end, seek_to_image}
-use Rattle.tiff_decode.proofs.ChainPosition.{sought_by}
+use Rattle.tiff_decode.specs.lemmas.ChainPosition.{sought_by}
 use Rattle.tiff_laws.specs.Pages.{Arrives, WalkSeeks}
 use Rattle.tiff_pages.specs.declared.pages.PageItem.{PageItem}
 use Rattle.tiff_pages.proofs.Along.{Answer, of_file}

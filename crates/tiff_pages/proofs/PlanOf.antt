@@ -29,7 +29,7 @@ use Rattle.tiff_page.specs.Checks.{chunks_counted, chunks_in, page_of, some_rows
 use Rattle.tiff_page.specs.Counts.{planes_of}
 use Rattle.tiff_page.specs.Layout.{first_is_alpha}
 use Rattle.tiff_page.specs.Page.{Chunks, PageRecord}
-use Rattle.tiff_page.proofs.PassedChecks.{passed_checks}
+use Rattle.tiff_page.specs.lemmas.PassedChecks.{passed_checks}
 use Rattle.tiff_pages.specs.Plan.{byte_counts_tag, listed, offsets_tag, plan_found, plan_of, plan_with, IsPage, IsPlanOf}
 use Rattle.tiff_pages.specs.declared.plan.PagePlan.{PagePlan}
 

@@ -5,3 +5,4 @@ pub mod Listed
 pub mod Tree
 pub mod Plan
 pub mod OfFile
+pub mod lemmas

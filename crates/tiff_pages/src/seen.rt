@@ -58,7 +58,7 @@ pub fn unless_wanted<T: Drop>(
 
 /// Lists the pages of a file, as [`pages`] does, or returns the bytes that it wants of the file. The
 /// only errors of the list are that of the file's header, and `OutOfMemory`.
-#[tactic(auto, using(crate::proofs::SeenFiles::pages_seen, crate::proofs::SeenFiles::wanted_seen))]
+#[tactic(auto, using(crate::specs::lemmas::SeenFiles::pages_seen, crate::specs::lemmas::SeenFiles::wanted_seen))]
 pub fn pages_seen<F: SeenFile>(
     alloc: Global,
     seen: &OrderedWindows<'_>,
@@ -80,7 +80,7 @@ pub fn pages_seen<F: SeenFile>(
 
 /// Lists the directories of a file, as [`directories`] does, or returns the bytes that it wants of
 /// the file. The only errors of the list are that of the file's header, and `OutOfMemory`.
-#[tactic(auto, using(crate::proofs::SeenFiles::directories_seen, crate::proofs::SeenFiles::wanted_seen))]
+#[tactic(auto, using(crate::specs::lemmas::SeenFiles::directories_seen, crate::specs::lemmas::SeenFiles::wanted_seen))]
 pub fn directories_seen<F: SeenFile>(
     alloc: Global,
     seen: &OrderedWindows<'_>,
@@ -103,7 +103,7 @@ pub fn directories_seen<F: SeenFile>(
 /// Reads the page of the directory at an offset of a file whole, as [`check_shown`] does under limits,
 /// or returns the bytes that it wants of the file. The only errors of the check are that of the
 /// file's header, and `OutOfMemory`.
-#[tactic(auto, using(crate::proofs::SeenFiles::check_seen, crate::proofs::SeenFiles::wanted_seen))]
+#[tactic(auto, using(crate::specs::lemmas::SeenFiles::check_seen, crate::specs::lemmas::SeenFiles::wanted_seen))]
 pub fn check_seen<F: SeenFile>(
     alloc: Global,
     seen: &OrderedWindows<'_>,

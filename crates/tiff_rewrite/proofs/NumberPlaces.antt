@@ -13,9 +13,9 @@ use Rattle.tiff_base.specs.declared.tags.ByteOrder.TheVariants.{LittleEndian, Bi
 use Rattle.tiff_base.specs.declared.tags.Predictor.TheVariants as predictor
 use Rattle.tiff_base.specs.Number.{number}
 use Rattle.tiff_base.specs.SourceAndSink.{bytes_at}
-use Rattle.tiff_value.proofs.Differences.{undone}
+use Rattle.tiff_value.specs.lemmas.Differences.{undone}
 use Rattle.tiff_page.specs.Pixels.{row_number, summed_number, width_of}
-use Rattle.tiff_page.proofs.Rows.{each_at, number_same, put_there, put_below, put_above}
+use Rattle.tiff_page.specs.lemmas.Rows.{each_at, number_same, put_there, put_below, put_above}
 use Rattle.tiff_rewrite.specs.StoredNumbers.{stored_by, place_of, PutsNumber}
 
 -- ---- one number is put

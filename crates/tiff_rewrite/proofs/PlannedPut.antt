@@ -8,16 +8,16 @@ use Rattle.tiff_ifd.specs.declared.limits.Limits.{Limits}
 use Rattle.tiff_page.specs.ChunkAlone.{with_lists}
 use Rattle.tiff_page.specs.Page.{PageRecord}
 use Rattle.tiff_page.specs.PixelCalls.{read_chunk_bytes}
-use Rattle.tiff_page.proofs.ChunkAlone.{chunk_alone}
+use Rattle.tiff_page.specs.lemmas.ChunkAlone.{chunk_alone}
 use Rattle.tiff_pages.specs.declared.plan.PagePlan.{PagePlan}
 use Rattle.tiff_pages.specs.Plan.{IsPageOfChunk, IsPlanOf, page_of_chunk}
-use Rattle.tiff_pages.proofs.Planned.{plans_make_pages}
+use Rattle.tiff_pages.specs.lemmas.Planned.{plans_make_pages}
 use Rattle.tiff_page.specs.Checks.{inconsistent}
 use Rattle.tiff_page.specs.Layout.{color_of}
 use Rattle.tiff_base.specs.declared.color.ColorType.{ColorType}
 use Rattle.tiff_rewrite.specs.Rewrite.{rewrite_fault}
 use Rattle.tiff_rewrite.specs.RewriteLaws.{IsRewrittenIn, ListsChunks}
-use Rattle.tiff_rewrite.proofs.ChunkPut.{has_color, shows_rewritten}
+use Rattle.tiff_rewrite.specs.lemmas.ChunkPut.{has_color, shows_rewritten}
 use Rattle.tiff_rewrite.specs.PlannedRewrite.{PlannedRewritten, PlansRewritePages, chunk_place, planned_fault, planned_place}
 
 module _ (plan : PagePlan) (file : List ℕ) (opened : Limits) (p : PageRecord) (k : ℕ)

@@ -16,8 +16,8 @@ use Rattle.tiff_page.specs.Page.{PageRecord}
 use Rattle.tiff_page.specs.Pixels.{is_byte_plane, needed_of_row, needs_whole_rows, number_by, row_number, shown_number, stored_row_bytes, stored_samples}
 use Rattle.tiff_page.specs.ReadablePage.{IsRead}
 use Rattle.tiff_page.specs.Row.{IsSize}
-use Rattle.tiff_page.proofs.OutputRow.{each_octet, in_place, whole, shown_bytes, stored_bytes}
-use Rattle.tiff_page.proofs.Rows.{by_size, bytes_of_numbers, number_before, number_lt, number_within, some_size}
+use Rattle.tiff_page.specs.lemmas.OutputRow.{each_octet, in_place, whole, shown_bytes, stored_bytes}
+use Rattle.tiff_page.specs.lemmas.Rows.{by_size, bytes_of_numbers, number_before, number_lt, number_within, some_size}
 use Rattle.tiff_rewrite.specs.Rewrite.{RowRewritten}
 use Rattle.tiff_rewrite.specs.StoredNumbers.{place_of, plain_number, stored_by}
 use Rattle.tiff_rewrite.proofs.NumberPlaces.{summed_back}

@@ -9,14 +9,14 @@ use Rattle.tiff_base.specs.declared.tags.ByteOrder.{ByteOrder}
 use Rattle.tiff_base.specs.SourceAndSink.{bytes_at}
 use Rattle.tiff_page.specs.BufferPositions.{IsIn}
 use Rattle.tiff_page.specs.Page.{PageRecord}
-use Rattle.tiff_page.proofs.Rows.{put_above, put_below, put_there}
+use Rattle.tiff_page.specs.lemmas.Rows.{put_above, put_below, put_there}
 use Rattle.tiff_page.specs.Layout.{row_bits, row_bytes, samples_in_chunk}
 use Rattle.tiff_page.specs.Pixels.{needed_bytes, needed_of_row, needs_whole_rows, stored_row_bytes, stored_samples}
 use Rattle.tiff_page.specs.Rect.{rect}
 use Rattle.std.proofs.Math.Path.{transport}
 use Rattle.tiff_rewrite.specs.Rewrite.{ChunkRewritten, RowRewritten, output_len, read_len}
 use Rattle.tiff_rewrite.proofs.NumberPlaces.{length_put_mid}
-use Rattle.tiff_rewrite.proofs.Puts.{same_part}
+use Rattle.tiff_rewrite.specs.lemmas.Puts.{same_part}
 
 -- the first n rows of a chunk are rewritten: rows of `len` bytes of samples, of `read` bytes that
 -- are `step` bytes apart

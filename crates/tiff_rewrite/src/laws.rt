@@ -1,6 +1,6 @@
 //! Laws of chunks that are rewritten in place. Each law is the contract of a function with an empty
 //! body.
-#![tactic(auto, using(crate::proofs::ChunkPut::shows_rewritten, crate::proofs::ChunkPut::keeps_apart))]
+#![tactic(auto, using(crate::specs::lemmas::ChunkPut::shows_rewritten, crate::specs::lemmas::ChunkPut::keeps_apart))]
 
 ghost use Rattle.tiff_rewrite.specs.RewriteLaws.{KeepsApart, ShowsRewritten};
 

@@ -67,7 +67,7 @@ fn read_len(page: &Page, color: ColorType, width: u32) -> usize
 
 // Returns how many stored bytes the image needs of a chunk, or `LimitsExceeded` for 2^64 bytes or
 // more.
-#[tactic(auto, using(tiff_page::proofs::Requests::rows_fit, tiff_page::proofs::Requests::bytes_few))]
+#[tactic(auto, using(tiff_page::specs::lemmas::Requests::rows_fit, tiff_page::specs::lemmas::Requests::bytes_few))]
 fn stored_len(page: &Page, color: ColorType, index: u32) -> TiffResult<usize>
     ensures { Gives (λ n. n) result (wide (needed_bytes (view.page page.now) color index)) }
 {

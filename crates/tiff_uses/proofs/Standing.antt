@@ -6,14 +6,14 @@ use Rattle.tiff_base.specs.declared.error.TiffError.{TiffError}
 use Rattle.tiff_base.specs.declared.error.TiffError.TheVariants.{FormatError, UnsupportedError, IoError, LimitsExceeded, IntSizeError, UsageError, OutOfMemory}
 use Rattle.tiff_base.specs.declared.io.IoKind.TheVariants.{UnexpectedEof, InvalidData, InvalidInput, WriteZero, Device}
 use Rattle.tiff_base.specs.Answers.{◌>>=◌, IsCause}
-use Rattle.tiff.proofs.Causes.{cause_along}
+use Rattle.tiff.specs.lemmas.Causes.{cause_along}
 use Rattle.tiff_base.specs.Directory.{directory_at}
 use Rattle.tiff_base.specs.Field.{DirectoryRecord}
 use Rattle.tiff_page.specs.Page.{PageRecord}
 use Rattle.tiff_decode.specs.Machine.{Decoding, FollowsWithoutEither, GivesOutcome, Outcome, Refused}
 use Rattle.tiff_decode.specs.Outcome.{decoder_of, chain_of, dimensions, next_image, page_in}
 use Rattle.tiff_laws.specs.Pages.{IsAlong, PageAnswers, GoesOn, ListedAlong, WalkOpens, WalkGoesOn, WalkEnds, page_at}
-use Rattle.tiff_laws.proofs.Listed.{listed_first, listed_next, listed_fewer, listed_all}
+use Rattle.tiff_laws.specs.lemmas.Listed.{listed_first, listed_next, listed_fewer, listed_all}
 use Rattle.tiff_uses.specs.Pages.{FileAnswers, each_sides, page_sides, sides_at, told_at}
 
 abbrev ok : ℕ × ℕ → Result (ℕ × ℕ) TiffError

@@ -144,7 +144,7 @@ pub fn image_of_chunks<R: Source>(decoder: &mut Decoder<R>, buffer: &mut [u8]) -
 const FRAME: usize = 4096;
 
 /// A file of one gray page that shows the samples; or the first error, as `write_image` returns it.
-#[tactic(auto, using(tiff_base::proofs::MemoryFaults::header_refused))]
+#[tactic(auto, using(tiff_base::specs::lemmas::MemoryFaults::header_refused))]
 pub fn gray_file(alloc: Global, width: u32, height: u32, samples: &[u8]) -> TiffResult<Vec<u8>>
     ensures answer { AnswersGray width height samples.now (view_of_result (λ v. v.items) result) }
     ensures shows { IfOk result (λ file. ShowsGray file.items width height samples.now) }
@@ -184,7 +184,7 @@ fn first_without_limits(alloc: Global, file: Vec<u8>) -> TiffResult<DecodingResu
 /// Writes an image of a color type into a file in memory, and reads it back without limits; or
 /// returns the first error: of `write_image`, or of the reader. If the caller passes as many samples
 /// as the image has, the same samples come back, in their order and of their type.
-#[tactic(auto, using(tiff_base::proofs::MemoryFaults::header_refused))]
+#[tactic(auto, using(tiff_base::specs::lemmas::MemoryFaults::header_refused))]
 pub fn written_and_read<C: NamedColorType>(
     alloc: Global,
     width: u32,
@@ -229,7 +229,7 @@ pub fn page_by_calls<R: Source>(
 /// The classic file that jobs write, run one after another. Appends the reply to each, also to a job
 /// that is refused. The only error is `OutOfMemory`, for the replies or the header: then no reply is
 /// appended.
-#[tactic(auto, using(tiff_base::proofs::MemoryFaults::header_refused))]
+#[tactic(auto, using(tiff_base::specs::lemmas::MemoryFaults::header_refused))]
 pub fn file_by_jobs(
     alloc: Global,
     jobs: &[Job<'_>],

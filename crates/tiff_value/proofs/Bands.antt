@@ -19,9 +19,9 @@ use Rattle.tiff_value.specs.Differences.{stored_difference, differences, predict
 use Rattle.tiff_value.specs.Written.{Written, writer_after, IsStopped, IsCut, WritesRaw}
 use Rattle.tiff_value.proofs.Chunk.{joined, left_plain, row_made, row_seen}
 use Rattle.tiff_base.specs.declared.tags.Predictor.{Predictor}
-use Rattle.tiff_value.proofs.Differences.{first_kept, predicted}
+use Rattle.tiff_value.specs.lemmas.Differences.{first_kept, predicted}
 use Rattle.tiff_value.proofs.Parts.{length-le}
-use Rattle.tiff_value.proofs.Put.{moved-moved, cut_behind}
+use Rattle.tiff_value.specs.lemmas.Put.{moved-moved, cut_behind}
 
 some_fault : {A : Type 0} (o : Option A) → o ≡ None → IsSome o → ⊥
 some_fault None e h = absurd cc

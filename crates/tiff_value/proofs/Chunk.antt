@@ -15,7 +15,7 @@ use Rattle.tiff_base.specs.declared.tags.Predictor.TheVariants as predictor
 use Rattle.tiff_value.specs.ColorType.{sample_number}
 use Rattle.tiff_value.specs.Differences.{stored_difference, differences, predicted_row}
 use Rattle.tiff_value.specs.Predicted.{AppendsRow}
-use Rattle.tiff_value.proofs.Differences.{predicted}
+use Rattle.tiff_value.specs.lemmas.Differences.{predicted}
 use Rattle.tiff_value.proofs.Lowest.{spelled_by}
 
 -- the list of each number in turn is the list

@@ -13,7 +13,7 @@ use Rattle.std.proofs.Math.Seq.{take-suc-set}
 use Rattle.tiff_base.specs.declared.tags.Predictor.TheVariants.{Horizontal}
 use Rattle.tiff_value.specs.Differences.{stored_difference, differences, predicted_row}
 use Rattle.tiff_value.specs.Lanes.{less_from}
-use Rattle.tiff_value.proofs.Differences.{first_kept, later_kept, predicted}
+use Rattle.tiff_value.specs.lemmas.Differences.{first_kept, later_kept, predicted}
 use Rattle.tiff_value.proofs.Predicted.{made}
 use borrow.Rule.Slice.PartMut.{put_mid, same_len_mid}
 use lib.IntN.{ℤ}

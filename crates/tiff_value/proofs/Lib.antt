@@ -1,11 +1,4 @@
-pub mod Put
-pub mod Data
 pub mod Values
-pub mod Bytes
-pub mod ColorTypes
-pub mod Differences
-pub mod Packing
-pub mod PackedRows
 pub mod Predicted
 pub mod Chunk
 pub mod Lowest

@@ -11,7 +11,7 @@ use Rattle.tiff_base.specs.Number.{le}
 use Rattle.tiff_base.specs.declared.tags.Predictor.TheVariants.{Horizontal}
 use Rattle.tiff_value.specs.ColorType.{sample_number}
 use Rattle.tiff_value.specs.Differences.{stored_difference}
-use Rattle.tiff_value.proofs.Differences.{first_kept, later_kept}
+use Rattle.tiff_value.specs.lemmas.Differences.{first_kept, later_kept}
 use Rattle.tiff_value.proofs.Lowest.{spelled_by}
 use borrow.Rule.Slice.PartMut.{put_mid, same_len_mid}
 

@@ -14,3 +14,4 @@ pub mod Compressors
 pub mod Lends
 pub mod ColorLaws
 pub mod Lanes
+pub mod lemmas

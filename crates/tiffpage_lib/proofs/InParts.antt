@@ -11,8 +11,8 @@ use Rattle.tiff_base.specs.declared.windows.Stretch.{Stretch}
 use Rattle.tiff_base.specs.declared.windows.Windows.{Windows}
 use Rattle.tiff_base.specs.Answers.{◌>>=◌, AnswersWithoutSource}
 use Rattle.tiff_base.specs.Windows.{AreWindowsOf, IsWanted, IsWindowOf, file_of}
-use Rattle.tiff_base.proofs.Causes.{cause_along}
-use Rattle.tiff_base.proofs.Seen.{same_file}
+use Rattle.tiff_base.specs.lemmas.Causes.{cause_along}
+use Rattle.tiff_base.specs.lemmas.Seen.{same_file}
 use Rattle.tiff_pages.specs.declared.check.FileCheck.{FileCheck}
 use Rattle.tiff_pages.specs.declared.check.PageCheck.{PageCheck}
 use Rattle.tiff_pages.specs.declared.lines.Lines.{Lines}

@@ -4,7 +4,7 @@ use Rattle.std.proofs.Math.Seq.{drop-cons}
 use Rattle.std.proofs.lemmas.List.{drop_all}
 use Rattle.tiff_base.specs.declared.error.TiffError.{TiffError}
 use Rattle.tiff_base.specs.declared.tags.IfdPointer.{IfdPointer}
-use Rattle.tiff.proofs.Causes.{cause_along}
+use Rattle.tiff.specs.lemmas.Causes.{cause_along}
 use Rattle.tiff.specs.Answers.{Answers, IsCause, ◌>>=◌}
 use Rattle.tiff.specs.Machine.{Decoding}
 use Rattle.tiff_decode.specs.Outcome as outcome

@@ -6,7 +6,7 @@ use Rattle.tiff_base.specs.Number.{le}
 use Rattle.tiff_base.specs.SourceAndSink.{AreOctets}
 use Rattle.tiff_base.specs.declared.error.TiffError.{TiffError}
 use Rattle.tiff_base.specs.Answers.{◌>>=◌, AnswersWithoutSource}
-use Rattle.tiff_base.proofs.Causes.{cause_along}
+use Rattle.tiff_base.specs.lemmas.Causes.{cause_along}
 use Rattle.tiff_ifd.specs.declared.limits.Limits.{Limits}
 use Rattle.tiff_page.specs.Image.{Decoded}
 use Rattle.tiff_decode.specs.Machine.{Decoding}

@@ -1,7 +1,7 @@
 -- Calls of a decoder at a page, one after another.
 use Rattle.std.proofs.Common.{◌≡◌, ℕ, Result, Ok, Err, ap, ◌∙◌, subst}
 use Rattle.tiff_base.specs.declared.error.TiffError.{TiffError}
-use Rattle.tiff.proofs.Causes.{cause_along}
+use Rattle.tiff.specs.lemmas.Causes.{cause_along}
 use Rattle.tiff.specs.Answers.{◌>>=◌, Answers}
 use Rattle.tiff.specs.Machine.{Decoding, FollowsWithoutSourceBut, stays}
 use Rattle.tiff_pages.specs.Check.{ReadsPage}

@@ -5,7 +5,7 @@ use Rattle.tiff_base.specs.declared.error.TiffError.{TiffError}
 use Rattle.tiff_base.specs.declared.error.TiffError.TheVariants.{FormatError, UnsupportedError, IoError, LimitsExceeded, IntSizeError, UsageError, OutOfMemory}
 use Rattle.tiff_base.specs.declared.io.IoKind.TheVariants.{UnexpectedEof, InvalidData, InvalidInput, WriteZero, Device}
 use Rattle.tiff_base.specs.declared.tags.IfdPointer.{IfdPointer}
-use Rattle.tiff.proofs.Causes.{cause_along}
+use Rattle.tiff.specs.lemmas.Causes.{cause_along}
 use Rattle.tiff_base.specs.Sparing.{IsOkOrList}
 use Rattle.tiff_base.specs.Field.{DirectoryRecord}
 use Rattle.tiff_page.specs.EarlyFaults.{image_early}
@@ -20,7 +20,7 @@ use Rattle.tiff_decode.specs.Outcome as outcome
 use Rattle.tiff_decode.specs.Result.{decoded_as}
 use Rattle.tiff_decode.specs.Step.{Step}
 use Rattle.tiff_decode.specs.Steps.{Steps}
-use Rattle.tiff.proofs.NextState.{IsTold, told}
+use Rattle.tiff.specs.lemmas.NextState.{IsTold, told}
 use Rattle.tiff.specs.Answers.{Answers, IsCause, ◌>>=◌}
 use Rattle.tiffpage_lib.specs.AtPage.{VisitsPage, at_page, page_decoder}
 use Rattle.tiffpage_lib.specs.Listing.{listing, listing_at, page_pointer}

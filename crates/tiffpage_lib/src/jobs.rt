@@ -63,7 +63,7 @@ fn told(alloc: Global, replies: Vec<JobReply>) -> TiffResult<Lines>
 }
 
 // Runs jobs over an empty sink.
-#[tactic(auto, using(tiff_base::proofs::MemoryFaults::header_refused))]
+#[tactic(auto, using(tiff_base::specs::lemmas::MemoryFaults::header_refused))]
 fn run_kind<K: TiffKind>(alloc: Global, keep_going: bool, jobs: &[Job<'_>]) -> TiffResult<Written>
     ensures { MatchResult result
         (λ written.
@@ -104,7 +104,7 @@ pub fn write_by(
 /// Runs jobs one after another behind a file, whose last link `last_link` found, and returns what
 /// they write, if no reply is an error, with a line for each reply, also to a job that is refused.
 /// Its only error is `OutOfMemory`: for the replies, the link or the lines.
-#[tactic(auto, using(tiff_append::proofs::Behind::out_of_memory))]
+#[tactic(auto, using(tiff_append::specs::lemmas::Behind::out_of_memory))]
 pub fn append_by(
     alloc: Global,
     file: &[u8],

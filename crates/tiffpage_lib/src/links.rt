@@ -42,7 +42,7 @@ fn follow<R: Source>(source: &mut R, at: &mut u64)
 /// Follows the links from a directory on, or from the header, which has the offset 0. Returns the
 /// bytes that are wanted of a directory, if windows don't have its count and its link; `at` is
 /// then its offset, and else that of a later directory.
-#[tactic(auto, using(tiff_pages::proofs::SeenFiles::wanted_seen))]
+#[tactic(auto, using(tiff_pages::specs::lemmas::SeenFiles::wanted_seen))]
 pub(crate) fn follow_links<F: SeenFile>(seen: &OrderedWindows<'_>, at: &mut u64) -> Option<Stretch>
     requires { AreWindowsOf F.bytes seen.now.seen }
     ensures { IfSome result (IsWanted seen.now.seen) }

@@ -13,10 +13,10 @@ use Rattle.tiff_encode.specs.ImageData.{AreNumbers, IsShortFile, WritesImageData
 use Rattle.tiff_encode.proofs.Data.Image.{image_leaves_by}
 use Rattle.tiff_encode.proofs.Data.Shows.{data_leaves}
 use Rattle.tiff_encode.proofs.Shown.Gray as proved
-use Rattle.tiff_encode.proofs.Header as its_header
+use Rattle.tiff_encode.specs.lemmas.Header as its_header
 use Rattle.tiff_encode.proofs.Image.Fits.{new_image_fits}
-use Rattle.tiff_encode.proofs.Shown.Parts.{parts_show}
-use Rattle.tiff_encode.proofs.Slices.{ok_inj}
+use Rattle.tiff_encode.specs.lemmas.Shown.Parts.{parts_show}
+use Rattle.tiff_encode.specs.lemmas.Slices.{ok_inj}
 use Rattle.test_definitions.specs.Encode.Causes.{new_file, gray}
 use Rattle.test_definitions.specs.Files.{gray_file}
 use Rattle.test_definitions.specs.Encode.Chunks.{new_pixel, pixel_in_file, page_file}

@@ -19,8 +19,8 @@ use Rattle.tiff_encode.specs.Model.{In, FinishedDirectory, Model, own_link, whol
 use Rattle.tiff_encode.specs.WriteOps.{Listed, standing_fields, model_after}
 use Rattle.tiff_encode.specs.Laws.{IsListable, AreListable}
 use Rattle.tiff_encode.specs.Shows.{Image, Shows, ShowsFirst, gray_image}
-use Rattle.tiff_encode.proofs.Header as its_header
-use Rattle.tiff_encode.proofs.Slices.{ok_inj}
+use Rattle.tiff_encode.specs.lemmas.Header as its_header
+use Rattle.tiff_encode.specs.lemmas.Slices.{ok_inj}
 use Rattle.tiff_encode.proofs.FileAndModel.{standing_entry, entries_standing}
 use Rattle.tiff_encode.proofs.WriteOps.{ops_stand}
 use Rattle.test_definitions.specs.OneValue.{long_field, one_to_one}

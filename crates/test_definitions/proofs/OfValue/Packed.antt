@@ -5,7 +5,7 @@ use Rattle.std.proofs.Common.{◌≡◌, ℕ, ◌+◌, ◌-◌, ◌<◌, ◌&&�
 use Rattle.std.proofs.lemmas.List.{nil_from_length, take_all, take_at}
 use Rattle.tiff_base.specs.Runs.{Unpacked, runs}
 use Rattle.tiff_base.specs.Blocks.{Block, Nothing, Literal, Repeated, AreBlocks, packed_block}
-use Rattle.tiff_value.proofs.Packing.{unpacks}
+use Rattle.tiff_value.specs.lemmas.Packing.{unpacks}
 use Rattle.tiff_value.specs.Packed.{is_sparing, may_be_written, IsPacked}
 use Rattle.test_definitions.specs.Value.Packed as s
 use Rattle.tiff.proofs.OnLiterals.{tiff_on_literals}

@@ -15,7 +15,7 @@ use Rattle.tiff_encode.specs.Causes.{end_of, begin_cause, finish_cause, new_imag
 use Rattle.tiff_encode.specs.Calls.{Offsets, offsets_of, links_to, chain_after, chains, finish, new_directory, pad, image_directory, write_tags, first_tags, image_in, new_image, last_tags, finish_image}
 use Rattle.tiff_encode.specs.Ends.{CallFails}
 use Rattle.tiff_encode.specs.Open.{model_by}
-use Rattle.tiff_encode.proofs.Slices.{ok_inj}
+use Rattle.tiff_encode.specs.lemmas.Slices.{ok_inj}
 use Rattle.tiff_encode.proofs.FileAndModel.{len_standing}
 use Rattle.tiff_encode.proofs.Keeping.{failed_so}
 use Rattle.tiff_encode.proofs.Joining.{IsAdding, adding, caused_adds, bind_adds, bind_adding, begin_adds, answers_adding}

@@ -10,7 +10,7 @@ use Rattle.tiff_encode.specs.Machine.{FileState, OpenDirectory, OpenImage, Write
 use Rattle.tiff_encode.specs.Chunks.{parts_left}
 use Rattle.tiff_encode.specs.Causes.{end_of, finish_cause, write_chunk_cause, write_image_data_cause}
 use Rattle.tiff_encode.specs.Calls.{Offsets, offsets_of, links_to, chains, with_field, write_entry, write_tag, write_tags, finish, with_chunk, appends_chunk, write_chunk, last_tags, finish_image, write_chunks, write_image_data}
-use Rattle.tiff_encode.proofs.Slices.{ok_inj}
+use Rattle.tiff_encode.specs.lemmas.Slices.{ok_inj}
 use Rattle.tiff_encode.proofs.WriteOps.{ops_grow, link_kept}
 use Rattle.tiff_encode.proofs.Runs.{uncaused}
 use Rattle.tiff_encode.proofs.Leaving.{finish_plain}

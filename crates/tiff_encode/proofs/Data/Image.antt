@@ -28,12 +28,12 @@ use Rattle.tiff_encode.specs.Shows.{shown_columns, Shows}
 use Rattle.tiff_encode.specs.Held.{image_with}
 use Rattle.tiff_encode.specs.Open.{RecordsImage, model_by}
 use Rattle.tiff_encode.specs.ImageData.{image_of_samples, WritesImageData, WritesImage, IsShortFile, AreNumbers, LeavesImage, LeavesNewImage, PartsShow, ImageLeaves}
-use Rattle.tiff_encode.proofs.Slices.{ok_inj, some_inj}
+use Rattle.tiff_encode.specs.lemmas.Slices.{ok_inj, some_inj}
 use Rattle.tiff_encode.proofs.WriteOps.{ops_stand, ops_grow, link_kept}
 use Rattle.tiff_encode.proofs.Open.Begun.{begins_open}
 use Rattle.tiff_encode.proofs.Image.FitsCalls.{put_longer, done_longer}
 use Rattle.tiff_encode.proofs.Image.Fits.{new_image_fits}
-use Rattle.tiff_encode.proofs.Shown.Color.{HasColor, IsOf, is_of_family, family_has}
+use Rattle.tiff_encode.specs.lemmas.Shown.Color.{HasColor, IsOf, is_of_family, family_has}
 use Rattle.tiff_encode.proofs.Shown.Packed.{columns_shown}
 use Rattle.tiff_encode.proofs.Image.FitsCalls.{adding_done}
 use Rattle.tiff_encode.proofs.Data.Chunks.{data_chunks, chunks_done, data_patches, same_directory}

@@ -19,7 +19,7 @@ use Rattle.tiff_encode.specs.Leaves.{LeavesTorn}
 use Rattle.tiff_encode.specs.Stored.{AreStored}
 use Rattle.tiff_encode.specs.Open.{model_by}
 use Rattle.tiff_encode.specs.ImageData.{StopsWithin, WritesDataBy, WritesImageData, IsShortFile}
-use Rattle.tiff_encode.proofs.Slices.{length_put, length-le}
+use Rattle.tiff_encode.specs.lemmas.Slices.{length_put, length-le}
 use Rattle.tiff_encode.proofs.WriteOps.{bytes_joined, ops_append, ops_stand, ops_torn}
 use Rattle.tiff_encode.proofs.Leaving.{ok_err, count_last, appending, begun_leaves}
 use Rattle.tiff_encode.proofs.Joining.{ends_torn}

@@ -9,7 +9,7 @@ use Rattle.tiff_encode.specs.Causes.{end_of, write_chunk_cause}
 use Rattle.tiff_encode.specs.Calls.{with_chunk, appends_chunk, write_chunk, write_chunks}
 use Rattle.tiff_encode.specs.Stored.{unpacked_chunk, AreStored}
 use Rattle.tiff_encode.specs.Open.{RecordsImage, model_by}
-use Rattle.tiff_encode.proofs.Slices.{ok_inj}
+use Rattle.tiff_encode.specs.lemmas.Slices.{ok_inj}
 use Rattle.tiff_encode.proofs.Open.Chunks.{chunk_keeps_open}
 use Rattle.tiff_encode.proofs.Joining.{adding}
 use Rattle.tiff_encode.proofs.Image.FitsCalls.{done_longer}

@@ -19,7 +19,7 @@ use Rattle.tiff_encode.specs.Machine.{FileState, OpenDirectory, WriteOutcome, Wr
 use Rattle.tiff_encode.specs.Causes.{end_of, field_cause, write_tag_cause}
 use Rattle.tiff_encode.specs.Calls.{with_field, placed_field, write_entry, write_tag}
 use Rattle.tiff_encode.specs.Tagging.{write_fields}
-use Rattle.tiff_encode.proofs.Slices.{ok_inj}
+use Rattle.tiff_encode.specs.lemmas.Slices.{ok_inj}
 use Rattle.tiff_encode.proofs.WriteOps.{bytes_joined, fits_joined, ops_append}
 use Rattle.tiff_encode.proofs.CallFits.{offset_len_8, placed_fits}
 use Rattle.tiff_encode.proofs.Joining.{IsAdding, adding, entry_adds, tag_adds}

@@ -3,7 +3,7 @@ use Rattle.std.proofs.Common.{◌≡◌, ℕ, Bool, true, false, List, [], ◌�
 use Rattle.std.specs.Prelude.{not, ◌||◌}
 use Rattle.std.specs.FinMap.{entries}
 use Rattle.std.specs.List.{list_any}
-use Rattle.tiff_base.proofs.Common.{neither}
+use Rattle.tiff_base.specs.lemmas.Common.{neither}
 use Rattle.tiff_base.specs.declared.error.TiffError.{TiffError}
 use Rattle.tiff_base.specs.Field.{Field}
 use Rattle.tiff_encode.specs.declared.encoder.script.DirectoryStep.{DirectoryStep}

@@ -17,13 +17,13 @@ use Rattle.tiff_encode.specs.Jobs as jobs
 use Rattle.tiff_encode.specs.Jobs.{FileAndModel, Drawn}
 use Rattle.tiff_encode.specs.Stepping.{StandsIfKnown, DrawMoves}
 use Rattle.tiff_encode.specs.ImageStepping.{reply_to}
-use Rattle.tiff_encode.proofs.Slices.{ok_inj}
+use Rattle.tiff_encode.specs.lemmas.Slices.{ok_inj}
 use Rattle.tiff_encode.proofs.WriteOps.{ops_grow}
 use Rattle.tiff_encode.proofs.Joining.{IsAdding, adding, stored_adds}
 use Rattle.tiff_encode.proofs.Moving.{grows_here}
 use Rattle.tiff_encode.proofs.Open.Chunks.{chunks_keep_open}
 use Rattle.tiff_encode.proofs.Open.Tags.{no_answer}
-use Rattle.tiff_encode.proofs.Samples.{are_numbers}
+use Rattle.tiff_encode.specs.lemmas.Samples.{are_numbers}
 use Rattle.tiff_encode.proofs.Image.Steps.{asked}
 use Rattle.std.proofs.lemmas.List.{length-map}
 

@@ -5,7 +5,7 @@ use Rattle.std.proofs.lemmas.Grind.{div_ceil_times}
 use Rattle.std.specs.FinMap.{get}
 use Rattle.std.specs.Ordering.{nat_cmp, eq_by_cmp}
 use Rattle.std.specs.Prelude.{◌/◌, ◌%◌, ◌==◌, ◌||◌}
-use Rattle.tiff_base.proofs.Common.{neither}
+use Rattle.tiff_base.specs.lemmas.Common.{neither}
 use Rattle.tiff_base.specs.declared.error.TiffError.{TiffError}
 use Rattle.tiff_base.specs.declared.tags.PhotometricInterpretation.{PhotometricInterpretation}
 use Rattle.tiff_base.specs.declared.tags.PhotometricInterpretation.TheVariants as meaning
@@ -16,7 +16,7 @@ use Rattle.tiff_base.specs.Tags.{tag_number}
 use Rattle.tiff_value.specs.declared.encoder.colortype.ColorTypeName.{ColorTypeName}
 use Rattle.tiff_value.specs.ColorType.{ColorTypeRecord, columns_of}
 use Rattle.tiff_value.specs.ColorTypes.{color_type, inner_size}
-use Rattle.tiff_value.proofs.ColorTypes.{are_color_types}
+use Rattle.tiff_value.specs.lemmas.ColorTypes.{are_color_types}
 use Rattle.tiff_encode.specs.declared.encoder.settings.Compression.{Compression}
 use Rattle.tiff_encode.specs.declared.encoder.settings.Compression.TheVariants.{Uncompressed, Packbits, PackbitsRows}
 use Rattle.tiff_encode.specs.FileBytes.{rows_per_strip}
@@ -28,7 +28,7 @@ use Rattle.tiff_encode.specs.Calls.{new_directory, pad, image_directory, default
 use Rattle.tiff_encode.specs.Held.{Given, HoldsAt, HoldsValues, chroma_given}
 use Rattle.tiff_encode.specs.Open.{TellsOpen, HoldsChunks, RecordsImage, model_by, BeginsOpen}
 use Rattle.tiff_encode.proofs.Columns.{columns_side, size_some}
-use Rattle.tiff_encode.proofs.Slices.{ok_inj}
+use Rattle.tiff_encode.specs.lemmas.Slices.{ok_inj}
 use Rattle.tiff_encode.proofs.Runs.{uncaused}
 use Rattle.tiff_encode.proofs.Joining.{adding, begin_adds}
 use Rattle.tiff_encode.proofs.Open.Held.{none_held, set, unset_same}

@@ -5,7 +5,7 @@ use Rattle.std.proofs.Math.Seq.{get_or-append_seam}
 use Rattle.std.proofs.lemmas.Bool.{eqb-true, ltb-true, leb-false, cases_lt, false≢true}
 use Rattle.std.proofs.lemmas.List.{length-append, length-map, map-append, get_or_append_left}
 use Rattle.std.specs.Prelude.{not, ◌==◌, slice_index}
-use Rattle.tiff_base.proofs.Common.{neither}
+use Rattle.tiff_base.specs.lemmas.Common.{neither}
 use Rattle.tiff_page.specs.Counts.{all_chunks}
 use Rattle.tiff_page.specs.Rect.{rect}
 use Rattle.tiff_encode.specs.FileBytes.{offset_len}
@@ -17,7 +17,7 @@ use Rattle.tiff_encode.specs.Calls.{with_chunk, appends_chunk, write_chunk, writ
 use Rattle.tiff_encode.specs.Stored.{unpacked_chunk, IsChunkStored}
 use Rattle.tiff_encode.specs.Held.{samples_of_chunk}
 use Rattle.tiff_encode.specs.Open.{HoldsChunks, RecordsImage, model_by, ChunksKeepOpen}
-use Rattle.tiff_encode.proofs.Slices.{ok_inj}
+use Rattle.tiff_encode.specs.lemmas.Slices.{ok_inj}
 use Rattle.tiff_encode.proofs.CallFits.{offset_fits}
 use Rattle.tiff_encode.proofs.Open.Held.{holds_grown}
 use Rattle.tiff_encode.proofs.Open.Tags.{caused_held}

@@ -20,7 +20,7 @@ use Rattle.tiff_encode.specs.Chunks.{all_samples, image_page, is_left}
 use Rattle.tiff_encode.specs.Calls.{Offsets, links_to, offsets_of, chains, finish, write_tags, extended_by_first, sample_tags, chunk_tags, last_tags, finish_image}
 use Rattle.tiff_encode.specs.Held.{Given, HoldsValues, ExtraGiven, value_in, AreGiven, EachGiven, image_tags, places_in, HasImageTags, IsWholeImage, AreSupplied, RegionsHaveChunks, ImagesShow}
 use Rattle.tiff_encode.specs.Open.{open_tags, TellsOpen, IsOpen, HoldsChunks, RecordsImage, model_by, EndsHeld, GrownEnded, EndedShown, EndsShown}
-use Rattle.tiff_encode.proofs.Slices.{ok_inj}
+use Rattle.tiff_encode.specs.lemmas.Slices.{ok_inj}
 use Rattle.tiff_encode.proofs.WriteOps.{ops_grow}
 use Rattle.tiff_encode.proofs.Given.{IsLocal, given_changed}
 use Rattle.tiff_encode.proofs.Open.Held.{holds_grown, chunks_grown, set, set_local}

@@ -2,7 +2,7 @@
 use Rattle.std.proofs.Common.{◌≡◌, ℕ, ◌+◌, ◌^◌, ◌<◌, true, false, List, [], ◌∷◌, length, Option, None, Ok, refl, subst}
 use Rattle.std.specs.List.{list_any}
 use Rattle.std.specs.FinMap.{insert}
-use Rattle.tiff_base.proofs.Common.{neither}
+use Rattle.tiff_base.specs.lemmas.Common.{neither}
 use Rattle.tiff_base.specs.declared.color.ChunkType.TheVariants.{Strip}
 use Rattle.tiff_base.specs.declared.error.TiffError.{TiffError}
 use Rattle.tiff_base.specs.declared.tags.ExtraSamples.{ExtraSamples}
@@ -22,7 +22,7 @@ use Rattle.tiff_encode.specs.Calls.{write_tag, write_tag_buf, write_tags, extend
 use Rattle.tiff_encode.specs.Stored.{unpacked_chunk}
 use Rattle.tiff_encode.specs.Held.{Given, HoldsValues, ExtraGiven, value_in, AreGiven, EachGiven, place_tags}
 use Rattle.tiff_encode.specs.Open.{open_tags, TellsOpen, IsOpen, HoldsChunks, RecordsImage, model_by, KeepsOpen, TagsKeepOpen, FieldsKeepOpen, ResolutionsKeepOpen}
-use Rattle.tiff_encode.proofs.Slices.{ok_inj}
+use Rattle.tiff_encode.specs.lemmas.Slices.{ok_inj}
 use Rattle.tiff_encode.proofs.WriteOps.{ops_grow}
 use Rattle.tiff_encode.proofs.Given.{IsLocal, given_changed}
 use Rattle.tiff_encode.proofs.Open.Held.{chunks_grown, other_held}

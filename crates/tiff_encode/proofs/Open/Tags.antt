@@ -3,7 +3,7 @@ use Rattle.std.proofs.Common.{◌≡◌, ℕ, Bool, true, false, cond, List, [],
 use Rattle.std.proofs.lemmas.List.{length-take-le, length-append}
 use Rattle.std.specs.Prelude.{replicate}
 use Rattle.std.specs.List.{list_any}
-use Rattle.tiff_base.proofs.Common.{neither}
+use Rattle.tiff_base.specs.lemmas.Common.{neither}
 use Rattle.tiff_base.specs.declared.error.TiffError.{TiffError}
 use Rattle.tiff_base.specs.declared.tags.FileKind.{FileKind}
 use Rattle.tiff_base.specs.declared.tags.Tag.{Tag}
@@ -21,7 +21,7 @@ use Rattle.tiff_encode.specs.Causes.{end_of, write_tag_cause}
 use Rattle.tiff_encode.specs.Calls.{with_field, placed_field, write_entry, write_entry_buf, write_tag, write_tag_buf, write_tags}
 use Rattle.tiff_encode.specs.Held.{Given, HasValues, HoldsValues}
 use Rattle.tiff_encode.specs.Open.{model_by}
-use Rattle.tiff_encode.proofs.Slices.{ok_inj, length-le}
+use Rattle.tiff_encode.specs.lemmas.Slices.{ok_inj, length-le}
 use Rattle.tiff_encode.proofs.WriteOps.{model_joined, ops_append, ops_grow}
 use Rattle.tiff_encode.proofs.Joining.{IsAdding, Adds, adding, entry_adds, entry_buf_adds, tag_adds, answers_adding, bind_adding}
 use Rattle.tiff_encode.proofs.Given.{IsLocal}

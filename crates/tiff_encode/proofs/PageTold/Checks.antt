@@ -32,7 +32,7 @@ use Rattle.tiff_encode.specs.Chunks as encoded
 use Rattle.tiff_encode.specs.Calls.{extended_by_first}
 use Rattle.tiff_encode.specs.Held.{IsWholeImage}
 use Rattle.tiff_encode.proofs.Columns.{across_same}
-use Rattle.tiff_encode.proofs.Samples.{some_method}
+use Rattle.tiff_encode.specs.lemmas.Samples.{some_method}
 use Rattle.tiff_encode.proofs.PageTold.Colors.{AreAlike, bits_repeated, formats_repeated, format_same, depth_same, image_alike, image_samples}
 
 -- ---- the values that a look-up finds

@@ -14,8 +14,8 @@ use Rattle.tiff_value.specs.ColorType.{ColorTypeRecord}
 use Rattle.tiff_value.specs.declared.encoder.colortype.ColorTypeName.{ColorTypeName}
 use Rattle.tiff_value.specs.declared.encoder.colortype.ColorTypeName.TheVariants as color
 use Rattle.tiff_value.specs.ColorTypes.{Family, count_of, format_of_type, family_and_type, depth_of, color_type}
-use Rattle.tiff_value.proofs.ColorTypes.{are_color_types}
-use Rattle.tiff_ifd.proofs.Fitted.{all_fit}
+use Rattle.tiff_value.specs.lemmas.ColorTypes.{are_color_types}
+use Rattle.tiff_ifd.specs.lemmas.Fitted.{all_fit}
 use Rattle.tiff_page.specs.Checks.{format_from, depth_from}
 use Rattle.tiff_encode.specs.Machine.{OpenImage}
 use Rattle.tiff_encode.specs.Chunks.{all_samples}

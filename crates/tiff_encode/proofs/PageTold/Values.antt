@@ -25,12 +25,12 @@ use Rattle.tiff_base.specs.Types.{type_size}
 use Rattle.tiff_ifd.specs.PlainValue.{PlainValue, plain_value_list_of, short, unsigned, unsigned_big}
 use Rattle.tiff_ifd.specs.PlainValue as f
 use Rattle.tiff_ifd.specs.Item.{item, list_item, items}
-use Rattle.tiff_ifd.proofs.Items.{items-first}
+use Rattle.tiff_ifd.specs.lemmas.Items.{items-first}
 use Rattle.tiff_ifd.specs.FieldValue.{numbers, value_from, is_allowed, field_value}
 use Rattle.tiff_ifd.specs.Limits.{unlimited}
 use Rattle.tiff_encode.specs.FileBytes.{offset_len}
 use Rattle.tiff_encode.specs.WriteOps.{standing_field, standing_fields}
-use Rattle.tiff_encode.proofs.Slices.{ok_bind, ok_inj, length-le, number-le}
+use Rattle.tiff_encode.specs.lemmas.Slices.{ok_bind, ok_inj, length-le, number-le}
 
 -- ---- a field in its entry
 

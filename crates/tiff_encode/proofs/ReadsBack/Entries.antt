@@ -5,7 +5,7 @@ use Rattle.std.specs.Int.{div_ceil}
 use Rattle.std.proofs.lemmas.Bool.{lt-ltb, le-ltb, lt-leb, le-leb, eq-eqb, ne_eqb, and_right}
 use Rattle.std.proofs.lemmas.Nat.{div-mul-add, mod-mul-add, mod_below, div_below}
 use Rattle.std.proofs.Math.Nat.{div-eq_of_lt, mod-eq_of_lt, mul_comm, mul-mod_left, le-div_iff_mul-le, le-mul_of_pos_right}
-use Rattle.tiff_base.proofs.Common.{bind_ok}
+use Rattle.tiff_base.specs.lemmas.Common.{bind_ok}
 use Rattle.tiff_base.specs.declared.color.ColorType.{ColorType}
 use Rattle.tiff_base.specs.declared.error.TiffError.{TiffError}
 use Rattle.tiff_base.specs.declared.tags.ByteOrder.TheVariants.{LittleEndian}
@@ -32,16 +32,16 @@ use Rattle.tiff_page.specs.Buffers.{planes_layout}
 use Rattle.tiff_page.specs.PixelCalls as calls
 use Rattle.tiff_page.specs.PixelCalls.{Part, bytes_with_region, part_fault, fill_buffer, image_part, image_of}
 use Rattle.tiff_page.specs.Image.{Decoded, decoded_samples}
-use Rattle.tiff_page.proofs.PositionLaws.{planes_some, no_fault}
-use Rattle.tiff_page.proofs.Rows.{each_same, by_size, some_size}
-use Rattle.tiff_page.proofs.Planes.{layout_gives, color_shows, first_plane_fault}
-use Rattle.tiff_page.proofs.Requests.{placed_in_zeros}
-use Rattle.tiff_page.proofs.Planes as plane
-use Rattle.tiff_page.proofs.NumberBytes as octets
+use Rattle.tiff_page.specs.lemmas.PositionLaws.{planes_some, no_fault}
+use Rattle.tiff_page.specs.lemmas.Rows.{each_same, by_size, some_size}
+use Rattle.tiff_page.specs.lemmas.Planes.{layout_gives, color_shows, first_plane_fault}
+use Rattle.tiff_page.specs.lemmas.Requests.{placed_in_zeros}
+use Rattle.tiff_page.specs.lemmas.Planes as plane
+use Rattle.tiff_page.specs.lemmas.NumberBytes as octets
 use Rattle.tiff_encode.specs.Shows.{Image, Shows}
 use Rattle.tiff_encode.specs.ReadsBack.{samples_shown, HasSamplesOf, IsReadable, LetsPass, ReadsShown, ReadsBack}
 use Rattle.tiff_encode.proofs.Shown.Whole.{whole_shown}
-use Rattle.tiff_encode.proofs.Slices.{ok_inj}
+use Rattle.tiff_encode.specs.lemmas.Slices.{ok_inj}
 use Rattle.tiff_encode.proofs.ReadsBack.Numbers.{some_right, all_are, sample_within, column_within, row_within, numbers_are}
 use Rattle.tiff_encode.proofs.ReadsBack.Page.{IsListed, page_listed}
 

@@ -16,8 +16,8 @@ use Rattle.tiff_page.specs.Page.{PageRecord}
 use Rattle.tiff_page.specs.Layout.{row_bits, row_bytes, samples_in_chunk}
 use Rattle.tiff_page.specs.Row.{IsSize}
 use Rattle.tiff_page.specs.Pixels.{tabulate, width_of, planar_or, shown_sample, number_byte, region_byte, image_region, byte_at, numbers_in}
-use Rattle.tiff_page.proofs.ChunkRows.{bits_are}
-use Rattle.tiff_page.proofs.Rows.{each_same, digits, little_digits, some_size}
+use Rattle.tiff_page.specs.lemmas.ChunkRows.{bits_are}
+use Rattle.tiff_page.specs.lemmas.Rows.{each_same, digits, little_digits, some_size}
 
 -- ---- a number and its bytes
 

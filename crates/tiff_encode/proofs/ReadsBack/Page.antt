@@ -2,7 +2,7 @@
 use Rattle.std.proofs.Common.{zero, suc, ◌≡◌, ℕ, ◌^◌, ◌<◌, true, false, cond, Bool, length, Result, Ok, Err, refl, sym, subst, arith, ⊎_elim}
 use Rattle.std.specs.Prelude.{nat_lt, ◌==◌, ◌&&◌}
 use Rattle.std.proofs.lemmas.Bool.{eqb-true}
-use Rattle.tiff_base.proofs.Common.{bind_ok}
+use Rattle.tiff_base.specs.lemmas.Common.{bind_ok}
 use Rattle.tiff_base.specs.declared.color.ChunkType.{ChunkType}
 use Rattle.tiff_base.specs.declared.color.ChunkType.TheVariants.{Strip, Tile}
 use Rattle.tiff_base.specs.declared.error.TiffError.{TiffError}
@@ -14,9 +14,9 @@ use Rattle.tiff_ifd.specs.TagLookup.{TagLookup, find_or, require}
 use Rattle.tiff_page.specs.Page.{PageRecord, Chunks}
 use Rattle.tiff_page.specs.Counts.{chunk_count, planes_of, all_chunks}
 use Rattle.tiff_page.specs.Checks.{some_samples, samples_in, some_rows, some_side, inconsistent, chunks_counted, strips_in, tiles_in, chunks_in, page_of}
-use Rattle.tiff_page.proofs.PassedChecks.{passed_checks}
-use Rattle.tiff_page.proofs.Planes.{cases_of, given_bind}
-use Rattle.tiff_encode.proofs.Slices.{ok_inj}
+use Rattle.tiff_page.specs.lemmas.PassedChecks.{passed_checks}
+use Rattle.tiff_page.specs.lemmas.Planes.{cases_of, given_bind}
+use Rattle.tiff_encode.specs.lemmas.Slices.{ok_inj}
 
 -- if a choice between a value and an error succeeds, it returns the value
 chosen : {A : Type 0} (b : Bool) (x y : A) (e : TiffError) → cond b (Ok x) (Err e) ≡ Ok y

@@ -23,9 +23,9 @@ use Rattle.tiff_encode.specs.ReadsBack.{column_samples, AllShown, HasSamplesOf, 
 use Rattle.tiff_encode.proofs.Data.Begun.{new_is}
 use Rattle.tiff_encode.proofs.ReadsBack.Entries.{reads_shown}
 use Rattle.tiff_encode.proofs.ReadsBack.Written.{depth_there, shown_in_order}
-use Rattle.tiff_encode.proofs.Shown.Color.{IsOf, is_of_family, IsColored, colored}
+use Rattle.tiff_encode.specs.lemmas.Shown.Color.{IsOf, is_of_family, IsColored, colored}
 use Rattle.tiff_encode.proofs.Shown.Packed.{columns_shown, one_sample}
-use Rattle.tiff_encode.proofs.Slices.{ok_inj}
+use Rattle.tiff_encode.specs.lemmas.Slices.{ok_inj}
 
 -- ---- a color with all samples
 

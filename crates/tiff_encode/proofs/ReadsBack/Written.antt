@@ -30,17 +30,17 @@ use Rattle.tiff_page.specs.Layout.{first_is_alpha, photometric, no_color, color_
 use Rattle.tiff_page.specs.Methods.{method_fault}
 use Rattle.tiff_page.specs.PixelFault.{is_byte_multiple, is_supported_color, is_gray, refuse_predictor, depth_fault, is_number, fault_of_predictor, predictor_fault, white_from, inversion_fault}
 use Rattle.tiff_page.specs.Pixels.{tabulate}
-use Rattle.tiff_page.proofs.Rows.{each_same}
-use Rattle.tiff_page.proofs.Planes.{given_if}
+use Rattle.tiff_page.specs.lemmas.Rows.{each_same}
+use Rattle.tiff_page.specs.lemmas.Planes.{given_if}
 use Rattle.tiff_encode.specs.Machine.{OpenImage}
 use Rattle.tiff_encode.specs.Chunks.{all_samples, subsampling_of, pixels_across, shown_page}
 use Rattle.tiff_encode.specs.Shows.{shown_columns}
 use Rattle.tiff_encode.specs.Open.{IsOpen}
 use Rattle.tiff_encode.specs.ReadsBack.{column_samples, IsReadable, WrittenReadsBack, ShownInOrder}
 use Rattle.tiff_page.specs.Counts.{parts}
-use Rattle.tiff_encode.proofs.ImageState.{one_part}
-use Rattle.tiff_encode.proofs.Samples.{some_method}
-use Rattle.tiff_encode.proofs.Shown.Color.{IsOf, is_of_family, first_of, IsColored, colored}
+use Rattle.tiff_encode.specs.lemmas.ImageState.{one_part}
+use Rattle.tiff_encode.specs.lemmas.Samples.{some_method}
+use Rattle.tiff_encode.specs.lemmas.Shown.Color.{IsOf, is_of_family, first_of, IsColored, colored}
 use Rattle.tiff_encode.proofs.Shown.Packed.{plain_depth, packed_as, packed_color}
 use Rattle.tiff_encode.proofs.ReadsBack.Entries.{reads_back}
 

@@ -17,7 +17,7 @@ use Rattle.tiff_encode.specs.Running.{step_count, JobsMove, IsEmptyWithRoom, Are
 use Rattle.tiff_encode.proofs.PageTold.Page.{page_told}
 use Rattle.tiff_encode.proofs.Shown.Images.{images_show_by}
 use Rattle.tiff_encode.proofs.Open.Ends.{ended_shown_by}
-use Rattle.tiff_encode.proofs.Slices.{some_inj, none_some}
+use Rattle.tiff_encode.specs.lemmas.Slices.{some_inj, none_some}
 
 -- ---- one more job
 

@@ -34,8 +34,8 @@ use Rattle.tiff_encode.specs.Jobs.{FileAndModel, Drawn, Run, FinishedImage, IsDo
 use Rattle.tiff_encode.specs.JobsBehind.{JobsGoOn, run_behind}
 use Rattle.tiff_encode.specs.Running.{JobsMove}
 use Rattle.tiff_encode.specs.Stepping.{IsSound}
-use Rattle.tiff_encode.proofs.Slices.{ok_inj, some_inj, none_some, length_put, length-le}
-use Rattle.tiff_encode.proofs.FormerBytes.{begun, cut, torn, written}
+use Rattle.tiff_encode.specs.lemmas.Slices.{ok_inj, some_inj, none_some, length_put, length-le}
+use Rattle.tiff_encode.specs.lemmas.FormerBytes.{begun, cut, torn, written}
 use Rattle.tiff_encode.proofs.Leaving.{ok_err}
 use Rattle.tiff_encode.proofs.Joining.{IsAdding}
 use Rattle.tiff_encode.proofs.EndLinks.{chain_among}

@@ -17,7 +17,7 @@ use Rattle.tiff_encode.specs.Open.{model_by}
 use Rattle.tiff_encode.specs.declared.encoder.script.EndReply.TheVariants as last
 use Rattle.tiff_encode.specs.Jobs.{FileAndModel, IsDone, Refuses, FinishesWith, FinishesSilently}
 use Rattle.tiff_encode.specs.Stepping.{StandsIfKnown, HasLink, EndMoves}
-use Rattle.tiff_encode.proofs.Slices.{some_inj, none_some}
+use Rattle.tiff_encode.specs.lemmas.Slices.{some_inj, none_some}
 use Rattle.tiff_encode.proofs.Moving.{grows_here}
 use Rattle.tiff_encode.proofs.WriteOps.{ops_grow, link_kept}
 use Rattle.tiff_encode.proofs.Leaving.{begun_leaves, torn_leaves, entries_fit, finish_plain}

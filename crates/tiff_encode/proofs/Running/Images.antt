@@ -20,7 +20,7 @@ use Rattle.tiff_encode.specs.ImageData as data_
 use Rattle.tiff_encode.specs.Jobs.{FileAndModel, FinishesSilently, EndsWithin, WritesData, JobWritesDataBy, WritesDataIfFound}
 use Rattle.tiff_encode.specs.Stepping.{EndMoves, IsHeld}
 use Rattle.tiff_encode.specs.JobEnding.{DataHeld}
-use Rattle.tiff_encode.proofs.Slices.{some_inj, none_some}
+use Rattle.tiff_encode.specs.lemmas.Slices.{some_inj, none_some}
 use Rattle.tiff_encode.proofs.Open.Ends.{ends_held}
 use Rattle.tiff_encode.proofs.Data.Calls.{behind_model}
 use Rattle.tiff_encode.proofs.Data.Chunks.{chunks_adding, chunks_done, data_chunks, data_patches}

@@ -36,7 +36,7 @@ use Rattle.tiff_encode.specs.JobValues.{cut_to}
 use Rattle.tiff_encode.specs.Jobs.{FileAndModel, IsDone, Refuses, Drawn, Run, FinishedImage, DirectoryStepped, AllStepped, FinishesSilently, DirectoryEnds, ImageEnds, EndsWithin, JobWritesDataBy, DirectoryRan, DirectoryRanBy, ImageRan, JobRan, IsSet, run_after_job, with_parent, parent_of, named_parent, open_directory, ended_samples, images_at, job_images, are_apart, offsets_in, IsRefusedAtOnce, JobIsNotBegun}
 use Rattle.tiff_encode.specs.Stepping.{StandsIfKnown, HasLink, Moves, StepsDraw, EndMoves, ImageHeld, IsHeld, IsSound, JobMoves, offsets_answered}
 use Rattle.tiff_encode.specs.Running.{NamesLink, link_in, linked_from, DirectoryGoes, DirectoryGoesOn, ImageGoes, ImageGoesOn, DirectoryRunsOn, ImageRunsOn}
-use Rattle.tiff_encode.proofs.Slices.{ok_inj, some_inj, none_some}
+use Rattle.tiff_encode.specs.lemmas.Slices.{ok_inj, some_inj, none_some}
 use Rattle.tiff_encode.proofs.WriteOps.{link_kept}
 use Rattle.tiff_encode.proofs.Joining.{IsAdding, adding, begin_adds, extra_adds}
 use Rattle.tiff_encode.proofs.Moving.{grows_here, grows_on, Led, seen}

@@ -19,11 +19,11 @@ use Rattle.tiff_encode.specs.Machine.{OpenImage, compression_method}
 use Rattle.tiff_encode.specs.Chunks.{image_page, shown_page, chunk_rows, row_samples, sample_in}
 use Rattle.tiff_encode.specs.Stored.{unpacked_chunk}
 use Rattle.tiff_encode.specs.Held.{IsWholeImage, samples_of_chunk, AreSupplied, HasChunks, ShowsSamples, ChunksShow}
-use Rattle.tiff_encode.proofs.Shown.Color.{IsOf, is_of_family, IsColored, colored}
+use Rattle.tiff_encode.specs.lemmas.Shown.Color.{IsOf, is_of_family, IsColored, colored}
 use Rattle.tiff_encode.proofs.Shown.Packed.{plain_page, pixels_shown}
-use Rattle.tiff_page.proofs.Rows.{some_size}
+use Rattle.tiff_page.specs.lemmas.Rows.{some_size}
 use Rattle.tiff_encode.proofs.Shown.Data.{data_begin, row_is, length_bytes, number_is}
-use Rattle.tiff_encode.proofs.Shown.Offsets.{plane_within, sample_within, chunk_listed, offset_within, offset_same, needed_within}
+use Rattle.tiff_encode.specs.lemmas.Shown.Offsets.{plane_within, sample_within, chunk_listed, offset_within, offset_same, needed_within}
 
 -- an image with all chunks written, and the samples that the chunks receive
 module _ (kind : FileKind) (file : List ℕ) (i : OpenImage) (samples : List (List ℕ))

@@ -18,21 +18,21 @@ use Rattle.tiff_base.specs.Number.{number, le}
 use Rattle.tiff_base.specs.Runs.{Unpacked, runs}
 use Rattle.tiff_base.specs.SourceAndSink.{exactly_at}
 use Rattle.tiff_value.specs.Differences.{stored_difference, differences}
-use Rattle.tiff_value.proofs.Packing.{unpacks}
-use Rattle.tiff_value.proofs.PackedRows.{rows_unpack}
+use Rattle.tiff_value.specs.lemmas.Packing.{unpacks}
+use Rattle.tiff_value.specs.lemmas.PackedRows.{rows_unpack}
 use Rattle.tiff_page.specs.Page.{PageRecord}
 use Rattle.tiff_page.specs.Methods.{data_by_method}
 use Rattle.tiff_page.specs.Pixels.{tabulate, width_of, stored_samples, stored_row_bytes, chunk_data, stored_row, number_size, row_number, number_by, stored_number}
 use Rattle.tiff_page.specs.Row.{IsSize}
-use Rattle.tiff_page.proofs.ChunkRows.{bits_are}
+use Rattle.tiff_page.specs.lemmas.ChunkRows.{bits_are}
 use Rattle.tiff_encode.specs.declared.encoder.settings.Compression.{Compression}
 use Rattle.tiff_encode.specs.declared.encoder.settings.Compression.TheVariants.{Uncompressed, Packbits, PackbitsRows}
 use Rattle.tiff_encode.specs.Machine.{OpenImage, compression_method}
 use Rattle.tiff_encode.specs.Chunks.{image_page, row_samples}
 use Rattle.tiff_encode.specs.Stored.{IsCompressed, unpacked_chunk}
-use Rattle.tiff_encode.proofs.Slices.{is_exact}
-use Rattle.tiff_encode.proofs.Shown.Color.{IsColored}
-use Rattle.tiff_encode.proofs.Shown.Bytes.{number_found, length_written}
+use Rattle.tiff_encode.specs.lemmas.Slices.{is_exact}
+use Rattle.tiff_encode.specs.lemmas.Shown.Color.{IsColored}
+use Rattle.tiff_encode.specs.lemmas.Shown.Bytes.{number_found, length_written}
 use Rattle.tiff_encode.proofs.Shown.Undone.{summed, kept_small}
 
 -- bytes stored in a file decode to data that begin with the given bytes

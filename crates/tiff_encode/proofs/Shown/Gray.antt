@@ -22,11 +22,11 @@ use Rattle.tiff_encode.specs.Machine.{FileState, OpenDirectory, OpenImage}
 use Rattle.tiff_encode.specs.Calls.{image_in}
 use Rattle.tiff_encode.specs.Shows.{Shows, ShowsGray, gray_page, gray_image}
 use Rattle.tiff_encode.specs.ImageData.{image_of_samples, LeavesImage, FirstShown, GrayShown}
-use Rattle.tiff_encode.proofs.Slices.{ok_inj}
-use Rattle.tiff_encode.proofs.Header.{only_link}
+use Rattle.tiff_encode.specs.lemmas.Slices.{ok_inj}
+use Rattle.tiff_encode.specs.lemmas.Header.{only_link}
 use Rattle.tiff_encode.proofs.Data.Begun.{new_is}
 use Rattle.tiff_encode.proofs.Shown.FirstPage.{first_told}
-use Rattle.tiff_encode.proofs.Shown.Parts.{gray_page_is, gray_sample_is}
+use Rattle.tiff_encode.specs.lemmas.Shown.Parts.{gray_page_is, gray_sample_is}
 
 pub first_shown : FirstShown
 first_shown color size width height samples old new m chain some l name c s =

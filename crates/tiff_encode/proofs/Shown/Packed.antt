@@ -27,16 +27,16 @@ use Rattle.tiff_page.specs.Counts.{parts, planes_of, all_chunks}
 use Rattle.tiff_page.specs.Rect.{across, chunks_of_plane, rect, chunk_of_pixel}
 use Rattle.tiff_page.specs.Layout.{row_bits, row_bytes, samples_in_chunk, color_of}
 use Rattle.tiff_page.specs.Pixels.{planar_or, stored_row_bytes, needed_of_row, needed_bytes, chunk_data, stored_row, is_short, image_region, packed_byte, shown_sample}
-use Rattle.tiff_page.proofs.Rows.{one_number, some_size}
+use Rattle.tiff_page.specs.lemmas.Rows.{one_number, some_size}
 use Rattle.tiff_encode.specs.Machine.{OpenImage, compression_method}
 use Rattle.tiff_encode.specs.Drawn.{IsSide, IsForm, HoldsPixels}
 use Rattle.tiff_encode.specs.Chunks.{all_samples, subsampling_of, image_page, pixels_across, shown_page}
 use Rattle.tiff_encode.specs.Shows.{shown_columns, shown_at}
 use Rattle.tiff_encode.specs.Held.{ShowsSamples}
-use Rattle.tiff_encode.proofs.ImageState.{one_part}
-use Rattle.tiff_encode.proofs.Slices.{ok_inj}
+use Rattle.tiff_encode.specs.lemmas.ImageState.{one_part}
+use Rattle.tiff_encode.specs.lemmas.Slices.{ok_inj}
 use Rattle.tiff_encode.proofs.Columns.{columns_plain, columns_packed}
-use Rattle.tiff_encode.proofs.Shown.Color.{IsOf, first_of}
+use Rattle.tiff_encode.specs.lemmas.Shown.Color.{IsOf, first_of}
 
 -- ---- one sample of a pixel
 

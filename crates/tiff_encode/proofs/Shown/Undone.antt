@@ -9,8 +9,8 @@ use Rattle.tiff_base.specs.declared.tags.Predictor.{Predictor}
 use Rattle.tiff_base.specs.declared.tags.Predictor.TheVariants as predictor
 use Rattle.tiff_base.specs.declared.tags.Predictor.TheVariants.{Horizontal}
 use Rattle.tiff_value.specs.Differences.{stored_difference}
-use Rattle.tiff_value.proofs.Differences.{total, undone}
-use Rattle.tiff_page.proofs.Rows.{sum_same}
+use Rattle.tiff_value.specs.lemmas.Differences.{total, undone}
+use Rattle.tiff_page.specs.lemmas.Rows.{sum_same}
 
 -- rows of l numbers, with s numbers per pixel
 module _ (m l s : ℕ) (numbers : List ℕ) (small : (k : ℕ) → get_or numbers k 0 < m) (row sample last : ℕ)

@@ -129,7 +129,7 @@ fn cut_numbers<S: Sample>(alloc: Global, numbers: &[u64]) -> TiffResult<Vec<S>>
 
 // Returns samples, each of which is the lowest bits of a number of `N` bytes. The only error is
 // `OutOfMemory`.
-#[tactic(auto, using(crate::proofs::JobSamples::next_cut, crate::proofs::JobSamples::all_cut))]
+#[tactic(auto, using(crate::specs::lemmas::JobSamples::next_cut, crate::specs::lemmas::JobSamples::all_cut))]
 fn cut_pieces<S: Sample, U: Number<N>, const N: usize>(
     alloc: Global,
     bytes: &[u8],

@@ -2,7 +2,7 @@ use Rattle.std.proofs.Common.{◌≡◌, ℕ, ◌<◌, List, length, Ok, Err, ap
 use Rattle.tiff.specs.Model.{IsLink, FileContains, header_model}
 use Rattle.tiff.specs.Shows.{ShowsGray}
 use Rattle.tiff_base.specs.declared.tags.FileKind.TheVariants.{Classic}
-use Rattle.tiff.proofs.MemoryFaults.{only_memory}
+use Rattle.tiff.specs.lemmas.MemoryFaults.{only_memory}
 use Rattle.tiff_value.specs.ColorTypes.{color_type, inner_type}
 use Rattle.tiff.proofs.Gray.{gray_bytes_shown, header_chain}
 use Rattle.tiff_uses.proofs.GrayFile.{gray_answered}

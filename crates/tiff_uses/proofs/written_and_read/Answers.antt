@@ -3,13 +3,13 @@ use Rattle.tiff_base.specs.declared.tags.«Type».{«Type»}
 use Rattle.tiff_base.specs.declared.error.TiffError.{TiffError}
 use Rattle.tiff_decode.specs.declared.result.DecodingResult.{DecodingResult}
 use Rattle.tiff_decode.specs.Result.{decoded_as}
-use Rattle.tiff.proofs.MemoryFaults.{only_memory}
+use Rattle.tiff.specs.lemmas.MemoryFaults.{only_memory}
 use Rattle.tiff.specs.Model.{IsLink, FileContains, header_model}
 use Rattle.tiff_base.specs.declared.tags.FileKind.TheVariants.{Classic}
 use Rattle.tiff_base.specs.Types.{type_size}
 use Rattle.tiff_value.specs.ColorType.{columns_of, sample_number}
 use Rattle.tiff_encode.specs.Model.{header_link}
-use Rattle.tiff.proofs.Samples.{are_numbers}
+use Rattle.tiff.specs.lemmas.Samples.{are_numbers}
 use Rattle.tiff.proofs.Gray.{header_chain}
 use Rattle.tiff_uses.specs.ReadBack.{ComesBack}
 use Rattle.tiff_uses.proofs.GrayFile.{alone}

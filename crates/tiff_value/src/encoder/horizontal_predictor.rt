@@ -136,7 +136,7 @@ impl Sample for u8 {
         Some(samples)
     }
 
-    #[tactic(auto, using(crate::proofs::Bytes::octets_alone))]
+    #[tactic(auto, using(crate::specs::lemmas::Bytes::octets_alone))]
     fn from_bytes(bytes: &[u8]) -> Option<&[u8]> {
         Some(bytes)
     }

@@ -117,7 +117,7 @@ pub trait TiffScalar: TiffValue + Sized {
 
     /// Appends the bytes of several values. The only error is `OutOfMemory`, after which `out`
     /// begins with its earlier contents.
-    #[tactic(auto, using(crate::proofs::Bytes::front_kept, crate::proofs::Values::scalar_pushed))]
+    #[tactic(auto, using(crate::specs::lemmas::Bytes::front_kept, crate::proofs::Values::scalar_pushed))]
     fn push_all(items: &[Self], out: &mut Vec<u8>) -> TiffResult<()>
         ensures answer { MatchResult result (λ _. out.new.items ≡ out.old.items ++ flat_map spelled items.now)
             (λ e. e ≡ TiffError.OutOfMemory) }

@@ -1,4 +1,4 @@
-use Rattle.tiff_base.proofs.Blocks.{one_unpacked}
+use Rattle.tiff_base.specs.lemmas.Blocks.{one_unpacked}
 use Rattle.tiff_base.proofs.laws.one_unpacked.Goals as goal
 
 pub returns : goal.returns

@@ -1,7 +1,7 @@
 use Rattle.std.proofs.Common.{rules, nat_le}
 use Rattle.std.proofs.lemmas.List.Sorted.{IsPartitionPoint-from_clause}
 use Rattle.tiff_base.specs.declared.windows.Window.{Window}
-use Rattle.tiff_base.proofs.Seen.{parted}
+use Rattle.tiff_base.specs.lemmas.Seen.{parted}
 use Rattle.tiff_base.proofs.windows.count_until.Goals as goal
 
 pub returns-clause-point : goal.returns-clause-point

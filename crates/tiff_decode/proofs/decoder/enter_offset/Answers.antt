@@ -1,7 +1,7 @@
 use Rattle.std.proofs.Common.{refl}
 use Rattle.tiff_page.specs.PageView as view
 use Rattle.tiff_decode.specs.Machine.{Decoding, decoding}
-use Rattle.tiff_decode.proofs.ChainPosition.{enters_read, told_same}
+use Rattle.tiff_decode.specs.lemmas.ChainPosition.{enters_read, told_same}
 use Rattle.tiff_decode.proofs.decoder.enter_offset.Goals as goal
 
 pub returns-clause-follows : goal.returns-clause-follows

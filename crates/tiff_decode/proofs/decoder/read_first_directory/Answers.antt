@@ -1,5 +1,5 @@
 use Rattle.std.proofs.Common.{◌<◌, rules, arith}
-use Rattle.tiff_base.proofs.Contents.{same_bytes}
+use Rattle.tiff_base.specs.lemmas.Contents.{same_bytes}
 use Rattle.tiff_base.specs.Header.{Header}
 use Rattle.tiff_decode.proofs.Opening.{unentered, first_entered}
 use Rattle.tiff_decode.proofs.decoder.read_first_directory.Goals as goal

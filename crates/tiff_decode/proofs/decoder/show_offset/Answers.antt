@@ -1,6 +1,6 @@
 use Rattle.tiff_page.specs.PageView as view
 use Rattle.tiff_decode.specs.Machine.{Decoding, decoding}
-use Rattle.tiff_decode.proofs.ChainPosition.{shows_read, told_same}
+use Rattle.tiff_decode.specs.lemmas.ChainPosition.{shows_read, told_same}
 use Rattle.tiff_decode.proofs.decoder.show_offset.Goals as goal
 
 pub returns-clause-follows : goal.returns-clause-follows

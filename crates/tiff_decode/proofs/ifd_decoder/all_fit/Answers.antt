@@ -1,5 +1,5 @@
 use Rattle.std.proofs.Common.{◌^◌, arith}
-use Rattle.tiff_ifd.proofs.Fitted.{all_fit}
+use Rattle.tiff_ifd.specs.lemmas.Fitted.{all_fit}
 use Rattle.tiff_decode.proofs.ifd_decoder.all_fit.Goals as goal
 
 pub returns : goal.returns

@@ -26,7 +26,7 @@ pub(crate) enum ImageSamples<'a, S> {
 
 impl<'a, S: Sample> ImageSamples<'a, S> {
     /// Returns the number of samples.
-    #[tactic(auto, using(crate::proofs::NumbersIn::count_numbers))]
+    #[tactic(auto, using(crate::specs::lemmas::NumbersIn::count_numbers))]
     pub(crate) fn count(self) -> usize
         ensures numbers { result ≡ length (given_numbers (type_size S.value_type) S.bits self.entry) }
         ensures count { result ≡ given_count (type_size S.value_type) self.entry }

@@ -1,7 +1,7 @@
 use Rattle.std.proofs.Common.{arith, ◌∙◌}
 use Rattle.std.proofs.lemmas.Grind.{common_steps}
 use Rattle.std.proofs.lemmas.Result.{err_from_is_err_and}
-use Rattle.tiff_base.proofs.Causes.{cause_along}
+use Rattle.tiff_base.specs.lemmas.Causes.{cause_along}
 use Rattle.tiff_ffi.proofs.Ranges.{all_read, goes_on, stops_at_none, stops_short, stops_unread}
 use Rattle.tiff_ffi.proofs.range.chunks_between.Goals as goal
 

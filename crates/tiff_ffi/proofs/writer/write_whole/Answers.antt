@@ -1,7 +1,7 @@
 use Rattle.std.proofs.Common.{rules, sym, ap, ◌∙◌}
 use Rattle.tiff_base.specs.Types.{type_size}
 use Rattle.tiff_value.specs.ColorTypes.{color_type, inner_type}
-use Rattle.tiff_base.proofs.MemoryFaults.{only_memory}
+use Rattle.tiff_base.specs.lemmas.MemoryFaults.{only_memory}
 use Rattle.tiff_ffi.proofs.Writing.{fault_written, file_written}
 use Rattle.tiff_ffi.proofs.writer.write_whole.Goals as goal
 

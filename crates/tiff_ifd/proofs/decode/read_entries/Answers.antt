@@ -2,8 +2,8 @@ use Rattle.std.proofs.Common.{rules, ◌≡◌, ◌+◌, ◌*◌, ◌++◌, [], 
 use Rattle.std.specs.List.{cons_option}
 use Rattle.tiff_base.specs.Directory.{entry_len, entry_of, entry_at, entries_from}
 use Rattle.tiff_base.specs.Field.{Field}
-use Rattle.tiff_base.proofs.Contents.{same_bytes}
-use Rattle.tiff_ifd.proofs.Entries.{read_there, entries_more}
+use Rattle.tiff_base.specs.lemmas.Contents.{same_bytes}
+use Rattle.tiff_ifd.specs.lemmas.Entries.{read_there, entries_more}
 use Rattle.tiff_ifd.proofs.decode.read_entries.Goals as goal
 
 pub loop-i-preserved : goal.loop-i-preserved

@@ -1,8 +1,8 @@
 use Rattle.std.proofs.Common.{◌≡◌, ◌∙◌, ℕ, List, Ok, Err, arith, subst}
 use Rattle.std.proofs.lemmas.Result.{err_from_is_err_and}
 use Rattle.std.specs.Int.{w16, w32}
-use Rattle.tiff_base.proofs.Causes.{cause_along}
-use Rattle.tiff_base.proofs.Contents.{same_bytes}
+use Rattle.tiff_base.specs.lemmas.Causes.{cause_along}
+use Rattle.tiff_base.specs.lemmas.Contents.{same_bytes}
 use Rattle.tiff_base.specs.Number.{number_at}
 use Rattle.tiff_ifd.proofs.Headers.{classic_cut, no_order, versioned}
 use Rattle.tiff_ifd.proofs.header.read_header.Goals as goal

@@ -1,4 +1,4 @@
-use Rattle.tiff_ifd.proofs.Chain.{apart_chain}
+use Rattle.tiff_ifd.specs.lemmas.Chain.{apart_chain}
 use Rattle.tiff_ifd.proofs.laws.apart_chain.Goals as goal
 
 pub returns : goal.returns

@@ -1,4 +1,4 @@
-use Rattle.tiff_ifd.proofs.Chain.{longest}
+use Rattle.tiff_ifd.specs.lemmas.Chain.{longest}
 use Rattle.tiff_ifd.proofs.laws.longest_chain.Goals as goal
 
 pub returns : goal.returns

@@ -1,4 +1,4 @@
-use Rattle.tiff_ifd.proofs.Links.{one_answer}
+use Rattle.tiff_ifd.specs.lemmas.Links.{one_answer}
 use Rattle.tiff_ifd.proofs.laws.one_answer.Goals as goal
 
 pub returns : goal.returns

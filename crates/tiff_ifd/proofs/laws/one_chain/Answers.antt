@@ -1,4 +1,4 @@
-use Rattle.tiff_ifd.proofs.Chain.{one_chain}
+use Rattle.tiff_ifd.specs.lemmas.Chain.{one_chain}
 use Rattle.tiff_ifd.proofs.laws.one_chain.Goals as goal
 
 pub returns : goal.returns

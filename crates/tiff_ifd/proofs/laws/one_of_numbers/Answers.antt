@@ -1,4 +1,4 @@
-use Rattle.tiff_ifd.proofs.OneNumber.{one_of_numbers}
+use Rattle.tiff_ifd.specs.lemmas.OneNumber.{one_of_numbers}
 use Rattle.tiff_ifd.proofs.laws.one_of_numbers.Goals as goal
 
 pub returns : goal.returns

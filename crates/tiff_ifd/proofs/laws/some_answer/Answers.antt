@@ -1,4 +1,4 @@
-use Rattle.tiff_ifd.proofs.Links.{some_answer}
+use Rattle.tiff_ifd.specs.lemmas.Links.{some_answer}
 use Rattle.tiff_ifd.proofs.laws.some_answer.Goals as goal
 
 pub returns : goal.returns

@@ -1,4 +1,4 @@
-use Rattle.tiff_ifd.proofs.Chain.{the_chain}
+use Rattle.tiff_ifd.specs.lemmas.Chain.{the_chain}
 use Rattle.tiff_ifd.proofs.laws.the_chain.Goals as goal
 
 pub returns : goal.returns

@@ -1,7 +1,7 @@
 use Rattle.std.proofs.Common.{◌+◌, arith, refl, sym, ◌∙◌, inl}
 use Rattle.std.proofs.lemmas.Result.{err_from_is_err_and}
-use Rattle.tiff_base.proofs.Contents.{same_bytes}
-use Rattle.tiff_ifd.proofs.Unpacking.{same_byte, nothing_told, literal_begun, run_begun, header_cause, value_cause, value_missing, all_read}
+use Rattle.tiff_base.specs.lemmas.Contents.{same_bytes}
+use Rattle.tiff_ifd.specs.lemmas.Unpacking.{same_byte, nothing_told, literal_begun, run_begun, header_cause, value_cause, value_missing, all_read}
 use Rattle.tiff_ifd.proofs.packbits.next_block.Goals as goal
 
 pub returns-in_err-header-clause-block : goal.returns-in_err-header-clause-block

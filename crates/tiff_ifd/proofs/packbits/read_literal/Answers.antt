@@ -1,5 +1,5 @@
 use Rattle.std.proofs.Common.{arith}
-use Rattle.tiff_ifd.proofs.Unpacking.{literal_gives}
+use Rattle.tiff_ifd.specs.lemmas.Unpacking.{literal_gives}
 use Rattle.tiff_ifd.proofs.packbits.read_literal.Goals as goal
 
 pub returns-clause-bytes : goal.returns-clause-bytes

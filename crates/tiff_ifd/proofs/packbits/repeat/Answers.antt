@@ -1,7 +1,7 @@
 use Rattle.std.proofs.Common.{arith, ℕ, ap, ◌∙◌}
 use Rattle.std.proofs.lemmas.List.{length-take}
 use lib.ListN.{replicate}
-use Rattle.tiff_ifd.proofs.Unpacking.{run_gives}
+use Rattle.tiff_ifd.specs.lemmas.Unpacking.{run_gives}
 use Rattle.tiff_ifd.proofs.packbits.repeat.Goals as goal
 
 pub returns-clause-bytes : goal.returns-clause-bytes

@@ -1,6 +1,6 @@
 use Rattle.std.proofs.Common.{◌≡◌, ◌∙◌, Ok, ap, sym, length, arith}
 use Rattle.std.proofs.lemmas.List.{take_at}
-use Rattle.tiff_ifd.proofs.Unsigned.{each_given}
+use Rattle.tiff_ifd.specs.lemmas.Unsigned.{each_given}
 use Rattle.tiff_ifd.proofs.read_numbers.unsigned_from.Goals as goal
 
 pub returns : goal.returns

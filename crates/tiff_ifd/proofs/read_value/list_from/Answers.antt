@@ -1,7 +1,7 @@
 use Rattle.std.proofs.Common.{arith}
 use Rattle.tiff_base.specs.Types.{type_size}
 use Rattle.tiff_ifd.specs.Item as spec
-use Rattle.tiff_ifd.proofs.Items.{less_one, read_one_more}
+use Rattle.tiff_ifd.specs.lemmas.Items.{less_one, read_one_more}
 use Rattle.tiff_ifd.proofs.read_value.list_from.Goals as goal
 
 pub loop-left-preserved : goal.loop-left-preserved

@@ -1,4 +1,4 @@
-use Rattle.tiff_laws.proofs.Back.{back}
+use Rattle.tiff_laws.specs.lemmas.Back.{back}
 use Rattle.tiff_laws.proofs.decoder.bytes_again.Goals as goal
 
 pub returns : goal.returns

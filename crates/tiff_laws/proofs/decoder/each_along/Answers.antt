@@ -1,4 +1,4 @@
-use Rattle.tiff_decode.proofs.NextState.{along}
+use Rattle.tiff_decode.specs.lemmas.NextState.{along}
 use Rattle.tiff_laws.proofs.decoder.each_along.Goals as goal
 
 pub returns : goal.returns

@@ -1,8 +1,8 @@
 use Rattle.std.proofs.Common.{arith, rules, ◌≡◌, ◌∙◌, drop, length, length-drop}
 use Rattle.std.proofs.lemmas.List.{length-append, length-take-le}
-use Rattle.tiff_base.proofs.Contents.{same_bytes}
+use Rattle.tiff_base.specs.lemmas.Contents.{same_bytes}
 use Rattle.tiff_ifd.specs.Unpacking.{left_at}
-use Rattle.tiff_page.proofs.ChunkRows.{more_passed}
+use Rattle.tiff_page.specs.lemmas.ChunkRows.{more_passed}
 use Rattle.tiff_page.proofs.chunk_data.pass_packed.Goals as goal
 
 pub loop-left-preserved : goal.loop-left-preserved

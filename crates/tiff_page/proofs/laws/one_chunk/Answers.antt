@@ -1,4 +1,4 @@
-use Rattle.tiff_page.proofs.PositionLaws.{one_chunk}
+use Rattle.tiff_page.specs.lemmas.PositionLaws.{one_chunk}
 use Rattle.tiff_page.proofs.laws.one_chunk.Goals as goal
 
 pub returns : goal.returns

@@ -1,4 +1,4 @@
-use Rattle.tiff_page.proofs.Planes.{whole_rows}
+use Rattle.tiff_page.specs.lemmas.Planes.{whole_rows}
 use Rattle.tiff_page.proofs.laws.whole_rows.Goals as goal
 
 pub returns : goal.returns

@@ -1,5 +1,5 @@
 use Rattle.tiff_page.specs.PageView as view
-use Rattle.tiff_page.proofs.Planes.{colored, some_planes}
+use Rattle.tiff_page.specs.lemmas.Planes.{colored, some_planes}
 use Rattle.tiff_page.proofs.layout.planes_layout.Goals as goal
 
 pub returns-clause-some : goal.returns-clause-some

@@ -1,6 +1,6 @@
 use Rattle.std.proofs.Common.{rules, ◌≡◌, length}
 use Rattle.std.specs.Vec.{vec_len}
-use Rattle.tiff_page.proofs.NumberBytes.{row_has_room, row_put_grown}
+use Rattle.tiff_page.specs.lemmas.NumberBytes.{row_has_room, row_put_grown}
 use Rattle.tiff_page.proofs.numbers.append_row.Goals as goal
 
 pub put_row-requires-clause-room : goal.put_row-requires-clause-room

@@ -2,7 +2,7 @@ use Rattle.std.proofs.Common.{arith, ◌∙◌, ◌≡◌, ◌-◌, ◌++◌, �
 use Rattle.std.specs.Prelude.{replicate}
 use Rattle.std.specs.Vec.{vec_len}
 use Rattle.std.proofs.lemmas.List.{take_all}
-use Rattle.tiff_page.proofs.NumberBytes.{zeros_behind}
+use Rattle.tiff_page.specs.lemmas.NumberBytes.{zeros_behind}
 use Rattle.tiff_page.proofs.numbers.grow.Goals as goal
 
 pub returns-in_ok-resize : goal.returns-in_ok-resize

@@ -1,6 +1,6 @@
 use Rattle.std.proofs.Common.{arith}
 use Rattle.std.specs.Vec.{vec_capacity, vec_len}
-use Rattle.tiff_page.proofs.NumberBytes.{next_piece, piece_behind}
+use Rattle.tiff_page.specs.lemmas.NumberBytes.{next_piece, piece_behind}
 use Rattle.tiff_page.proofs.numbers.push_row.Goals as goal
 
 pub push_numbers-list-requires-clause-whole : goal.push_numbers-list-requires-clause-whole

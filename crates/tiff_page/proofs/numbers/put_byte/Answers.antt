@@ -1,6 +1,6 @@
 use Rattle.std.proofs.Common.{rules, ◌<◌, ◌%◌, refl}
 use Rattle.tiff_base.specs.SourceAndSink.{AreOctets}
-use Rattle.tiff_page.proofs.NumberBytes.{byte_put, number_there, set_octets}
+use Rattle.tiff_page.specs.lemmas.NumberBytes.{byte_put, number_there, set_octets}
 use Rattle.tiff_page.proofs.numbers.put_byte.Goals as goal
 
 pub returns : goal.returns

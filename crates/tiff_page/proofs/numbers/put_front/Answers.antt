@@ -1,5 +1,5 @@
 use Rattle.std.proofs.Common.{rules, ◌<◌, ◌/◌, length, refl}
-use Rattle.tiff_page.proofs.NumberBytes.{placed_more}
+use Rattle.tiff_page.specs.lemmas.NumberBytes.{placed_more}
 use Rattle.tiff_page.proofs.numbers.put_front.Goals as goal
 
 pub loop-k-preserved : goal.loop-k-preserved

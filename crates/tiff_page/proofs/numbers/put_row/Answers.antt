@@ -1,6 +1,6 @@
 use Rattle.std.proofs.Common.{rules, ◌≡◌, ◌+◌, ◌%◌, ◌/◌, ◌≤◌, length}
 use Rattle.tiff_base.specs.SourceAndSink.{AreOctets}
-use Rattle.tiff_page.proofs.NumberBytes.{numbers_fit, row_put_whole}
+use Rattle.tiff_page.specs.lemmas.NumberBytes.{numbers_fit, row_put_whole}
 use Rattle.tiff_page.proofs.numbers.put_row.Goals as goal
 
 pub returns-then-row-eq0 : goal.returns-then-row-eq0

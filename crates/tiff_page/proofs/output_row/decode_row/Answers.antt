@@ -1,6 +1,6 @@
 use Rattle.std.proofs.Common.{◌≡◌, ◌∙◌, ◌*◌, ◌/◌, ◌<◌, ◌⊎◌, ℕ, arith, subst}
 use Rattle.tiff_page.specs.PageView as view
-use Rattle.tiff_page.proofs.OutputRow.{in_place, row_handed, undone_numbers}
+use Rattle.tiff_page.specs.lemmas.OutputRow.{in_place, row_handed, undone_numbers}
 use Rattle.tiff_page.proofs.output_row.decode_row.Goals as goal
 
 pub returns : goal.returns

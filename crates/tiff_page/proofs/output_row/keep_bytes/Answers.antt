@@ -1,5 +1,5 @@
 use Rattle.std.proofs.Common.{arith}
-use Rattle.tiff_page.proofs.OutputRow.{kept_more}
+use Rattle.tiff_page.specs.lemmas.OutputRow.{kept_more}
 use Rattle.tiff_page.proofs.output_row.keep_bytes.Goals as goal
 
 pub loop-column-preserved : goal.loop-column-preserved

@@ -1,6 +1,6 @@
 use Rattle.std.proofs.Common.{◌∙◌, sym}
 use Rattle.tiff_page.specs.PageView as view
-use Rattle.tiff_page.proofs.OutputRow.{whole_stood}
+use Rattle.tiff_page.specs.lemmas.OutputRow.{whole_stood}
 use Rattle.tiff_page.proofs.output_row.turn_whole.Goals as goal
 
 pub returns-else-needs_swap : goal.returns-else-needs_swap

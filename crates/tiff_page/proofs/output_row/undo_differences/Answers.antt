@@ -1,6 +1,6 @@
 use Rattle.std.proofs.Common.{true, false, sym, ◌≡◌, ◌∙◌}
 use Rattle.tiff_page.specs.PageView as view
-use Rattle.tiff_page.proofs.OutputRow.{summed_row}
+use Rattle.tiff_page.specs.lemmas.OutputRow.{summed_row}
 use Rattle.tiff_base.specs.declared.tags.Predictor.TheVariants.{Horizontal}
 use Rattle.tiff_page.proofs.output_row.undo_differences.Goals as goal
 use Rattle.tiff_page.proofs.output_row.undo_differences.Goals.{in-Horizontal, in_default}

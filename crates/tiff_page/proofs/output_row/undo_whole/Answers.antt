@@ -3,8 +3,8 @@ use Rattle.std.proofs.Math.Bool.{or-true}
 use Rattle.tiff_page.specs.PageView as view
 use Rattle.tiff_page.specs.Pixels.{is_byte_plane, joined_number}
 use Rattle.tiff_page.specs.Row.{IsSize, RowReplaced}
-use Rattle.tiff_page.proofs.OutputRow.{joined_numbers, stored_count, stored_whole, no_byte_plane, undone_numbers}
-use Rattle.tiff_page.proofs.Rows.{some_size}
+use Rattle.tiff_page.specs.lemmas.OutputRow.{joined_numbers, stored_count, stored_whole, no_byte_plane, undone_numbers}
+use Rattle.tiff_page.specs.lemmas.Rows.{some_size}
 use Rattle.tiff_page.specs.OutputRow.{needs_swap}
 use Rattle.tiff_page.proofs.output_row.undo_whole.Goals as goal
 

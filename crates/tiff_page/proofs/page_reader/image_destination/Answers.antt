@@ -3,8 +3,8 @@ use Rattle.std.proofs.lemmas.Nat.{mul-lt}
 use Rattle.tiff_page.specs.Layout.{row_bits}
 use Rattle.tiff_page.specs.Laws.{HasSides}
 use Rattle.tiff_page.specs.PageView as view
-use Rattle.tiff_page.proofs.Filling.{same_x, same_y}
-use Rattle.tiff_page.proofs.PositionLaws.{chunks_within}
+use Rattle.tiff_page.specs.lemmas.Filling.{same_x, same_y}
+use Rattle.tiff_page.specs.lemmas.PositionLaws.{chunks_within}
 use Rattle.tiff_page.proofs.page_reader.image_destination.Goals as goal
 
 pub overflow_add-result : goal.overflow_add-result

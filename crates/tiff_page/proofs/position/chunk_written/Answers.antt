@@ -1,4 +1,4 @@
-use Rattle.tiff_page.proofs.Covering.{chunk_written}
+use Rattle.tiff_page.specs.lemmas.Covering.{chunk_written}
 use Rattle.tiff_page.proofs.position.chunk_written.Goals as goal
 
 pub returns : goal.returns

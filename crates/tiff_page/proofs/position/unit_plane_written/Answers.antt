@@ -1,4 +1,4 @@
-use Rattle.tiff_page.proofs.Covering.{unit_plane_written}
+use Rattle.tiff_page.specs.lemmas.Covering.{unit_plane_written}
 use Rattle.tiff_page.proofs.position.unit_plane_written.Goals as goal
 
 pub returns : goal.returns

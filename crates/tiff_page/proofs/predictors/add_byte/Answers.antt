@@ -1,4 +1,4 @@
-use Rattle.tiff_page.proofs.Rows.{adds_1}
+use Rattle.tiff_page.specs.lemmas.Rows.{adds_1}
 use Rattle.tiff_page.proofs.predictors.add_byte.Goals as goal
 
 pub returns : goal.returns

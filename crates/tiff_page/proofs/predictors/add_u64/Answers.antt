@@ -1,5 +1,5 @@
 use Rattle.std.proofs.Common.{arith, ◌∙◌}
-use Rattle.tiff_page.proofs.Rows.{adds_8}
+use Rattle.tiff_page.specs.lemmas.Rows.{adds_8}
 use Rattle.tiff_page.proofs.predictors.add_u64.Goals as goal
 
 pub returns : goal.returns

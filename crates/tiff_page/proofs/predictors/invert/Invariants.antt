@@ -1,5 +1,5 @@
 use Rattle.std.proofs.Common.{◌*◌}
-use Rattle.tiff_page.proofs.Rows.{Upto}
+use Rattle.tiff_page.specs.lemmas.Rows.{Upto}
 use Rattle.tiff_page.proofs.predictors.invert.Given as goal
 
 abbrev pub invariant-parts : goal.invariant-parts

@@ -1,5 +1,5 @@
 use Rattle.std.proofs.Common.{rules}
-use Rattle.tiff_page.proofs.Rows.{complements}
+use Rattle.tiff_page.specs.lemmas.Rows.{complements}
 use Rattle.tiff_page.proofs.predictors.invert_lanes.Goals as goal
 
 pub returns : goal.returns

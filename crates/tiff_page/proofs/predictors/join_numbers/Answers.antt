@@ -1,6 +1,6 @@
 use Rattle.std.proofs.Common.{◌≡◌, arith, length, take, drop, ◌∙◌, ◌*◌, ◌+◌, ◌-◌}
 use Rattle.std.proofs.lemmas.List.{length-take, length-drop}
-use Rattle.tiff_page.proofs.Rows.{join_more, number_within}
+use Rattle.tiff_page.specs.lemmas.Rows.{join_more, number_within}
 use Rattle.tiff_page.proofs.predictors.join_numbers.Goals as goal
 
 pub loop-k-preserved : goal.loop-k-preserved

@@ -1,6 +1,6 @@
 use Rattle.std.proofs.Common.{◌≡◌, arith, refl, ◌-◌}
 use Rattle.tiff_page.specs.Row.{AddsNumber}
-use Rattle.tiff_page.proofs.Rows.{first_summed, summed_more, rest_more, behind_more}
+use Rattle.tiff_page.specs.lemmas.Rows.{first_summed, summed_more, rest_more, behind_more}
 use Rattle.tiff_page.proofs.predictors.sum_numbers.Goals.{in-1, in-2, in-4, in_default}
 use Rattle.tiff_page.proofs.predictors.sum_numbers.Goals as goal
 

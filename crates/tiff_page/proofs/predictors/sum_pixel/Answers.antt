@@ -1,6 +1,6 @@
 use Rattle.std.proofs.Common.{◌∙◌, ◌+◌, ◌%◌, get_or, arith}
 use Rattle.std.proofs.lemmas.List.{length-set}
-use Rattle.tiff_page.proofs.Rows.{byte_done, byte_held, byte_kept}
+use Rattle.tiff_page.specs.lemmas.Rows.{byte_done, byte_held, byte_kept}
 use Rattle.tiff_page.proofs.predictors.sum_pixel.Goals as goal
 
 pub loop-j-preserved : goal.loop-j-preserved

@@ -2,7 +2,7 @@ use Rattle.std.proofs.Common.{◌≡◌, ℕ, ◌∙◌, ◌<◌, get_or, subst,
 use Rattle.std.proofs.lemmas.List.{get_or-replicate, length-take, length-drop}
 use Rattle.tiff_base.specs.declared.tags.ByteOrder.TheVariants.{LittleEndian}
 use Rattle.tiff_page.specs.Pixels.{summed_number}
-use Rattle.tiff_page.proofs.Rows.{number_within, all_summed, carries_first, pixel_carries, pixel_done, pixel_rest}
+use Rattle.tiff_page.specs.lemmas.Rows.{number_within, all_summed, carries_first, pixel_carries, pixel_done, pixel_rest}
 use Rattle.tiff_page.proofs.predictors.sum_pixels.Goals as goal
 
 pub loop-k-preserved : goal.loop-k-preserved

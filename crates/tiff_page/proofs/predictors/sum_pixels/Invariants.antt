@@ -1,7 +1,7 @@
 use Rattle.std.proofs.Common.{◌≡◌, ℕ, ◌*◌, ◌<◌, ◌≤◌, get_or}
 use Rattle.tiff_base.specs.declared.tags.ByteOrder.TheVariants.{LittleEndian}
 use Rattle.tiff_page.specs.Pixels.{summed_number}
-use Rattle.tiff_page.proofs.Rows.{CarriesTo}
+use Rattle.tiff_page.specs.lemmas.Rows.{CarriesTo}
 use Rattle.tiff_page.proofs.predictors.sum_pixels.Given as goal
 
 -- the pixels before the next are summed, the rest is unchanged, and the last sums are those for the

@@ -1,6 +1,6 @@
 use Rattle.std.proofs.Common.{ℕ, List, arith, sym, subst}
 use Rattle.tiff_page.specs.Row.{SwapsBytes}
-use Rattle.tiff_page.proofs.Rows.{bytes_turned}
+use Rattle.tiff_page.specs.lemmas.Rows.{bytes_turned}
 use Rattle.tiff_page.proofs.predictors.to_little_endian.Goals as goal
 
 pub returns-in-2 : goal.returns-in-2

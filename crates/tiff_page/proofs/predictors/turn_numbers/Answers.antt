@@ -1,4 +1,4 @@
-use Rattle.tiff_page.proofs.Rows.{turned_more}
+use Rattle.tiff_page.specs.lemmas.Rows.{turned_more}
 use Rattle.tiff_page.proofs.predictors.turn_numbers.Goals as goal
 
 pub loop-k-preserved : goal.loop-k-preserved

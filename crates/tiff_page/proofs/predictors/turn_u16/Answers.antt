@@ -1,5 +1,5 @@
 use Rattle.std.proofs.Common.{arith, ◌∙◌}
-use Rattle.tiff_page.proofs.Rows.{turns_2}
+use Rattle.tiff_page.specs.lemmas.Rows.{turns_2}
 use Rattle.tiff_page.proofs.predictors.turn_u16.Goals as goal
 
 pub returns : goal.returns

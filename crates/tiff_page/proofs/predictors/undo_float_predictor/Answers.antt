@@ -1,5 +1,5 @@
 use Rattle.std.proofs.Common.{arith}
-use Rattle.tiff_page.proofs.Rows.{joined}
+use Rattle.tiff_page.specs.lemmas.Rows.{joined}
 use Rattle.tiff_page.proofs.predictors.undo_float_predictor.Goals as goal
 
 pub returns : goal.returns

@@ -1,7 +1,7 @@
 use Rattle.std.proofs.Common.{◌≡◌, ℕ, Result, Ok, Err, arith, subst, sym}
 use Rattle.std.specs.Prelude.{IsErrAnd}
 use Rattle.std.proofs.lemmas.Grind.{common_steps}
-use Rattle.tiff_base.proofs.Causes.{cause_along}
+use Rattle.tiff_base.specs.lemmas.Causes.{cause_along}
 use Rattle.tiff_base.specs.Answers.{AnswersBut, IsCause}
 use Rattle.tiff_base.specs.Sparing.{IsFoundWithin}
 use Rattle.tiff_base.specs.declared.error.TiffError.{TiffError}
@@ -9,7 +9,7 @@ use Rattle.tiff_base.specs.declared.tags.Tag.TheVariants as tag
 use Rattle.tiff_ifd.specs.TagLookup.{TagLookup}
 use Rattle.tiff_page.specs.Checks.{page_of, size_in}
 use Rattle.tiff_page.specs.PageView as view
-use Rattle.tiff_page.proofs.PassedChecks.{size_found}
+use Rattle.tiff_page.specs.lemmas.PassedChecks.{size_found}
 use Rattle.tiff_page.proofs.read_page.read_page.Goals as goal
 
 -- the error of a check behind the size is the error of the page

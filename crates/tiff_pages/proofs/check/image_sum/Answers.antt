@@ -5,7 +5,7 @@ use Rattle.tiff_base.specs.declared.error.TiffError.{TiffError}
 use Rattle.tiff_base.specs.Answers.{◌>>=◌}
 use Rattle.tiff_pages.specs.declared.check.ImageSum.{ImageSum}
 use Rattle.tiff_pages.specs.Check.{sum_of, whole_image}
-use Rattle.tiff_pages.proofs.PageReads.{read_refused}
+use Rattle.tiff_pages.specs.lemmas.PageReads.{read_refused}
 use Rattle.tiff_pages.proofs.check.image_sum.Goals as goal
 
 pub returns-in_err-image : goal.returns-in_err-image

@@ -1,7 +1,7 @@
 use Rattle.tiff_decode.specs.Outcome.{read_image_to_buffer}
 use Rattle.tiff_decode.specs.Result.{decoded_as}
 use Rattle.tiff_pages.specs.Check.{planes_read}
-use Rattle.tiff_pages.proofs.PageReads.{reads_page}
+use Rattle.tiff_pages.specs.lemmas.PageReads.{reads_page}
 use Rattle.tiff_pages.proofs.check.read_planes.Goals as goal
 
 pub returns : goal.returns

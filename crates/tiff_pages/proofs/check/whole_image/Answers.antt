@@ -4,7 +4,7 @@ use Rattle.std.specs.declared.alloc.Global.{Global}
 use Rattle.std.specs.Prelude.{ℕ}
 use Rattle.tiff_decode.specs.Result.{decoded_as}
 use Rattle.tiff_pages.specs.Check.{all_bytes, planes_read}
-use Rattle.tiff_pages.proofs.PageReads.{read_refused, read_then}
+use Rattle.tiff_pages.specs.lemmas.PageReads.{read_refused, read_then}
 use Rattle.tiff_pages.proofs.check.whole_image.Goals as goal
 
 pub returns-in_err-layout : goal.returns-in_err-layout

@@ -1,4 +1,4 @@
-use Rattle.tiff_pages.proofs.Planned.{plans_make_pages}
+use Rattle.tiff_pages.specs.lemmas.Planned.{plans_make_pages}
 use Rattle.tiff_pages.proofs.plan.plans_make_pages.Goals as goal
 
 pub returns : goal.returns

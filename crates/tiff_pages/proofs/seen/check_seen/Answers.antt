@@ -4,7 +4,7 @@ use Rattle.tiff_base.specs.Windows.{IsWanted}
 use Rattle.tiff_decode.specs.Machine.{Decoding}
 use Rattle.tiff_pages.specs.declared.check.PageCheck.{PageCheck}
 use Rattle.tiff_pages.specs.OfFile.{check_of, under}
-use Rattle.tiff_pages.proofs.SeenFiles.{check_seen, same_limits, unless_told, wanted_seen}
+use Rattle.tiff_pages.specs.lemmas.SeenFiles.{check_seen, same_limits, unless_told, wanted_seen}
 use Rattle.tiff_pages.proofs.seen.check_seen.Goals as goal
 
 pub open_seen-requires-clause-header : goal.open_seen-requires-clause-header

@@ -2,7 +2,7 @@ use Rattle.std.proofs.Common.{◌≡◌, IfOk, subst}
 use Rattle.tiff_base.specs.Answers.{ReadsOnly}
 use Rattle.tiff_ifd.specs.Stretches.{HeaderReadable}
 use Rattle.tiff_base.specs.Windows.{seen_by}
-use Rattle.tiff_pages.proofs.SeenFiles.{opened_seen}
+use Rattle.tiff_pages.specs.lemmas.SeenFiles.{opened_seen}
 use Rattle.tiff_pages.proofs.seen.open_seen.Goals as goal
 
 pub returns-clause-answer : goal.returns-clause-answer

@@ -3,7 +3,7 @@ use Rattle.std.specs.Int.{w32}
 use Rattle.tiff_base.specs.Number.{number}
 use Rattle.tiff_base.specs.declared.tags.ByteOrder.TheVariants.{LittleEndian}
 use Rattle.tiff_page.specs.Pixels.{row_number}
-use Rattle.tiff_page.proofs.Rows.{each_at, one_number}
+use Rattle.tiff_page.specs.lemmas.Rows.{each_at, one_number}
 use Rattle.tiff_rewrite.proofs.numbers.number_in.Goals as goal
 
 pub returns-in-1-clause-value : goal.returns-in-1-clause-value

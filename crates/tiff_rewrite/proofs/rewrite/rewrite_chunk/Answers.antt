@@ -2,7 +2,7 @@ use Rattle.std.proofs.Common.{subst}
 use Rattle.tiff_base.specs.declared.color.ColorType.{ColorType}
 use Rattle.tiff_page.specs.PageView as view
 use Rattle.tiff_rewrite.specs.Rewrite.{ChunkRewritten}
-use Rattle.tiff_rewrite.proofs.ChunkPut.{tested_color, tested_len, tested_read}
+use Rattle.tiff_rewrite.specs.lemmas.ChunkPut.{tested_color, tested_len, tested_read}
 use Rattle.tiff_rewrite.proofs.rewrite.rewrite_chunk.Goals as goal
 
 pub put_rows-requires-clause-read : goal.put_rows-requires-clause-read

@@ -1,4 +1,4 @@
-use Rattle.tiff_value.proofs.Data.{data_is_whole}
+use Rattle.tiff_value.specs.lemmas.Data.{data_is_whole}
 use Rattle.tiff_value.proofs.laws.data_is_whole.Goals as goal
 
 pub returns : goal.returns

@@ -1,6 +1,6 @@
 use Rattle.std.proofs.Common.{◌<◌, get_or, string_bytes, subst, arith}
 use Rattle.std.specs.Vec.Iter.{into_iter_items}
-use Rattle.tiff.proofs.Causes.{cause_along}
+use Rattle.tiff.specs.lemmas.Causes.{cause_along}
 use Rattle.tiff_decode.specs.declared.script.Call.TheVariants as call
 use Rattle.tiff_decode.specs.declared.script.Reply.{Reply}
 use Rattle.tiff_decode.specs.Step.{Step}

@@ -2,7 +2,7 @@ use Rattle.std.proofs.Common.{rules, refl}
 use Rattle.tiff.specs.Outcome.{read_image_to_buffer}
 use Rattle.tiff.specs.Result.{decoded_as}
 use Rattle.tiff_page.specs.declared.layout.BufferLayoutPreference.{BufferLayoutPreference}
-use Rattle.tiff_pages.proofs.PageReads.{reads_page}
+use Rattle.tiff_pages.specs.lemmas.PageReads.{reads_page}
 use Rattle.tiffpage_lib.specs.Samples.{page_planes}
 use Rattle.tiffpage_lib.proofs.Visits.{seek_refused, seek_then}
 use Rattle.tiffpage_lib.proofs.samples.read_planes.Goals as goal

@@ -9,7 +9,7 @@ use Rattle.tiff.specs.Result.{decoded_as}
 use Rattle.tiffpage_lib.specs.Samples.{page_image}
 use Rattle.tiffpage_lib.specs.View.{drawn, shape_here}
 use Rattle.tiffpage_lib.specs.declared.view.Shape.{Shape}
-use Rattle.tiff_pages.proofs.PageReads.{read_refused, read_then}
+use Rattle.tiff_pages.specs.lemmas.PageReads.{read_refused, read_then}
 use Rattle.tiffpage_lib.proofs.Shown.{reads_more}
 use Rattle.tiffpage_lib.proofs.view.picture_here.Goals as goal
 

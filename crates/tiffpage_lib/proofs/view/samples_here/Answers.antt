@@ -1,7 +1,7 @@
 use Rattle.tiff.specs.Outcome.{read_image}
 use Rattle.tiff.specs.Result.{decoded_as}
 use Rattle.tiffpage_lib.specs.Samples.{page_image}
-use Rattle.tiff_pages.proofs.PageReads.{reads_page}
+use Rattle.tiff_pages.specs.lemmas.PageReads.{reads_page}
 use Rattle.tiffpage_lib.proofs.view.samples_here.Goals as goal
 
 pub returns : goal.returns

@@ -7,7 +7,7 @@ use Rattle.tiff.specs.Outcome as outcome
 use Rattle.tiff_page.specs.declared.layout.BufferLayoutPreference.{BufferLayoutPreference}
 use Rattle.tiffpage_lib.specs.View.{shape_of}
 use Rattle.tiffpage_lib.specs.declared.view.Shape.{Shape}
-use Rattle.tiff_pages.proofs.PageReads.{read_refused, read_then}
+use Rattle.tiff_pages.specs.lemmas.PageReads.{read_refused, read_then}
 use Rattle.tiffpage_lib.proofs.Shown.{reads_more}
 use Rattle.tiffpage_lib.proofs.view.shape_here.Goals as goal
 

@@ -1,5 +1,5 @@
 use Rattle.std.proofs.Common.{◌≤◌, length, arith}
-use Rattle.tiff_append.proofs.Behind.{length_added, over_written, past_written}
+use Rattle.tiff_append.specs.lemmas.Behind.{length_added, over_written, past_written}
 use Rattle.tiff_append.proofs.sink.BehindSink.change.Goals as goal
 
 pub overwrite_in-requires : goal.overwrite_in-requires

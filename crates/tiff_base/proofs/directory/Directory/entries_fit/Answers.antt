@@ -1,5 +1,5 @@
 use Rattle.std.proofs.Common.{subst}
-use Rattle.tiff_base.proofs.Fits.{tree_fits}
+use Rattle.tiff_base.specs.lemmas.Fits.{tree_fits}
 use Rattle.tiff_base.proofs.directory.Directory.entries_fit.Goals as goal
 use Rattle.tiff_base.specs.Field.{AreEntries, DirectoryRecord}
 

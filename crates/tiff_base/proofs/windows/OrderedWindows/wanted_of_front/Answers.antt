@@ -1,5 +1,5 @@
 use Rattle.std.proofs.Common.{arith, rules}
-use Rattle.tiff_base.proofs.Seen.{front_grows, front_seen}
+use Rattle.tiff_base.specs.lemmas.Seen.{front_grows, front_seen}
 use Rattle.tiff_base.proofs.windows.OrderedWindows.wanted_of_front.Goals as goal
 
 pub windows-preserved : goal.windows-preserved

@@ -1,5 +1,5 @@
 use Rattle.std.proofs.Common.{◌-◌}
-use Rattle.tiff_base.proofs.Seen.{FrontSeen}
+use Rattle.tiff_base.specs.lemmas.Seen.{FrontSeen}
 use Rattle.tiff_base.proofs.windows.OrderedWindows.wanted_of_front.Given as goal
 
 abbrev pub invariant-windows : goal.invariant-windows

@@ -1,5 +1,5 @@
 use Rattle.std.proofs.Common.{arith, ◌-◌, leb-true}
-use Rattle.tiff_base.proofs.Seen.{no_window, nowhere, window_ends}
+use Rattle.tiff_base.specs.lemmas.Seen.{no_window, nowhere, window_ends}
 use Rattle.tiff_base.proofs.windows.OrderedWindows.window_at.Goals as goal
 
 pub returns-then-count-eq0-clause-none : goal.returns-then-count-eq0-clause-none

@@ -1,6 +1,6 @@
 use Rattle.std.proofs.Common.{get_or}
 use Rattle.tiff_base.specs.Windows.{HasWindowAt}
-use Rattle.tiff_base.proofs.Seen.{no_window, read_seen}
+use Rattle.tiff_base.specs.lemmas.Seen.{no_window, read_seen}
 use Rattle.tiff_base.proofs.windows.WindowSourceSource.read_at.Goals as goal
 
 pub returns-in-Some-clause-ok : goal.returns-in-Some-clause-ok

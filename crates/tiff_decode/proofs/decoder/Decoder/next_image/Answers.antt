@@ -3,7 +3,7 @@ use Rattle.tiff_page.specs.PageView as view
 use Rattle.tiff_decode.specs.Machine.{Decoding, decoding}
 use Rattle.tiff_decode.specs.Outcome.{next_image}
 use Rattle.tiff_decode.proofs.Asked.{entered_page, last_is, next_behind, next_entry, none_asks}
-use Rattle.tiff_decode.proofs.ChainPosition.{offset_behind, next_known, next_read, next_closed, none_of, past_end, added_at, answered, unfailed, none_found, shown_open, told_same, stands_told, stays_refused}
+use Rattle.tiff_decode.specs.lemmas.ChainPosition.{offset_behind, next_known, next_read, next_closed, none_of, past_end, added_at, answered, unfailed, none_found, shown_open, told_same, stands_told, stays_refused}
 use Rattle.tiff_decode.proofs.decoder.Decoder.next_image.Goals as goal
 
 pub returns-in-Some-clause-follows : goal.returns-in-Some-clause-follows

@@ -1,7 +1,7 @@
 use Rattle.std.proofs.Common.{rules, ap, sym, ◌∙◌, Ok, None}
 use Rattle.tiff_base.specs.Answers.{FailsFrom}
 use Rattle.tiff_base.specs.Header.{Header}
-use Rattle.tiff_base.proofs.Contents.{same_bytes}
+use Rattle.tiff_base.specs.lemmas.Contents.{same_bytes}
 use Rattle.tiff_decode.proofs.Opened.{opened_header, opened_unread}
 use Rattle.tiff_decode.proofs.decoder.Decoder.open.Goals as goal
 

@@ -1,10 +1,10 @@
 use Rattle.std.proofs.Common.{Err, refl, sym, ◌∙◌}
-use Rattle.tiff_base.proofs.Contents.{same_bytes}
+use Rattle.tiff_base.specs.lemmas.Contents.{same_bytes}
 use Rattle.tiff_page.specs.PageView as view
 use Rattle.tiff_decode.specs.Machine.{State, Decoding, decoding}
 use Rattle.tiff_decode.specs.Outcome.{seek_to_image}
 use Rattle.tiff_decode.proofs.Asked.{none_asks, sought_entry, sought_past, sought_way}
-use Rattle.tiff_decode.proofs.ChainPosition.{none_found, seek_cut, seek_known, seek_past, along_on, stands_longer, stands_told, stays_refused, shown, told_same, unfailed}
+use Rattle.tiff_decode.specs.lemmas.ChainPosition.{none_found, seek_cut, seek_known, seek_past, along_on, stands_longer, stands_told, stays_refused, shown, told_same, unfailed}
 use Rattle.tiff_decode.proofs.decoder.Decoder.seek_to_image.Goals as goal
 
 pub invariant_of-self : goal.invariant_of-self

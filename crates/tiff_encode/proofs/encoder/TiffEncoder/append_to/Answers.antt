@@ -1,4 +1,4 @@
-use Rattle.tiff_encode.proofs.GoingOn.{writer_behind_header, writer_behind_directory}
+use Rattle.tiff_encode.specs.lemmas.GoingOn.{writer_behind_header, writer_behind_directory}
 use Rattle.tiff_encode.proofs.encoder.TiffEncoder.append_to.Goals as goal
 
 pub returns-clause-behind_header : goal.returns-clause-behind_header

@@ -1,7 +1,7 @@
 use Rattle.std.proofs.Common.{rules}
 use Rattle.tiff_base.specs.SourceAndSink.{AreOctets}
 use Rattle.tiff_base.specs.Types.{type_size}
-use Rattle.tiff_encode.proofs.Shown.Color.{size_of_type}
+use Rattle.tiff_encode.specs.lemmas.Shown.Color.{size_of_type}
 use Rattle.tiff_encode.proofs.StoredBytes.{bytes_stored}
 use Rattle.tiff_encode.proofs.encoder.TiffEncoder.put_bytes.Goals as goal
 

@@ -2,8 +2,8 @@ use Rattle.std.proofs.Common.{map, arith}
 use Rattle.tiff_base.specs.Types.{type_size}
 use Rattle.tiff_value.specs.ColorType.{sample_number}
 use Rattle.tiff_encode.proofs.Data.Image.{image_leaves_by}
-use Rattle.tiff_encode.proofs.Shown.Parts.{parts_show}
-use Rattle.tiff_encode.proofs.Samples.{are_numbers}
+use Rattle.tiff_encode.specs.lemmas.Shown.Parts.{parts_show}
+use Rattle.tiff_encode.specs.lemmas.Samples.{are_numbers}
 use Rattle.tiff_encode.proofs.encoder.TiffEncoder.write_image.Goals as goal
 
 pub returns-clause-leaves : goal.returns-clause-leaves

@@ -4,7 +4,7 @@ use Rattle.tiff_page.specs.Pixels.{numbers_in}
 use Rattle.tiff_encode.specs.declared.encoder.image.samples.ImageSamples.TheVariants.{Stored}
 use Rattle.tiff_encode.specs.Causes.{image_samples}
 use Rattle.tiff_encode.specs.Given.{given_numbers, AreStorable}
-use Rattle.tiff_encode.proofs.NumbersIn.{bytes_enough}
+use Rattle.tiff_encode.specs.lemmas.NumbersIn.{bytes_enough}
 use Rattle.tiff_encode.proofs.encoder.TiffEncoder.write_part.Goals as goal
 
 pub write_stored-requires-clause-whole : goal.write_stored-requires-clause-whole

@@ -1,7 +1,7 @@
 use Rattle.std.proofs.Common.{map}
 use Rattle.tiff_base.specs.Types.{type_size}
 use Rattle.tiff_value.specs.ColorType.{sample_number}
-use Rattle.tiff_encode.proofs.JobSamples.{octets_are}
+use Rattle.tiff_encode.specs.lemmas.JobSamples.{octets_are}
 use Rattle.tiff_encode.proofs.encoder.job_samples.cut_octets.Goals as goal
 
 pub returns-in-Some : goal.returns-in-Some

@@ -1,8 +1,8 @@
 use Rattle.std.proofs.Common.{arith}
 use Rattle.std.proofs.lemmas.Result.{err_from_is_err_and}
 use Rattle.tiff_ifd.specs.FieldValue.{field_value, stands_in_entry}
-use Rattle.tiff_ifd.proofs.Unsigned.{numbers_placed, numbers_too_long}
-use Rattle.tiff_ifd.proofs.Within.{numbers_answered, numbers_refused}
+use Rattle.tiff_ifd.specs.lemmas.Unsigned.{numbers_placed, numbers_too_long}
+use Rattle.tiff_ifd.specs.lemmas.Within.{numbers_answered, numbers_refused}
 use Rattle.tiff_ifd.proofs.field_reader.FieldReader.read_numbers.Goals as goal
 
 pub returns-in_default-clause-answer : goal.returns-in_default-clause-answer

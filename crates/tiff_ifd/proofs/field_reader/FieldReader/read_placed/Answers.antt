@@ -6,7 +6,7 @@ use Rattle.tiff_base.specs.Answers.{IsCause}
 use Rattle.tiff_base.specs.FieldBytes.{field_bytes}
 use Rattle.tiff_base.specs.SourceAndSink.{exactly_at}
 use Rattle.tiff_ifd.specs.FieldValue.{is_allowed}
-use Rattle.tiff_ifd.proofs.Within.{placed_cause}
+use Rattle.tiff_ifd.specs.lemmas.Within.{placed_cause}
 use Rattle.tiff_ifd.proofs.field_reader.FieldReader.read_placed.Goals as goal
 
 pub returns-in_err-bytes-clause-answer : goal.returns-in_err-bytes-clause-answer

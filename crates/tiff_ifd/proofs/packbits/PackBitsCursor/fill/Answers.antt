@@ -1,6 +1,6 @@
 use Rattle.std.proofs.Common.{arith, rules, ◌∙◌}
-use Rattle.tiff_base.proofs.Contents.{same_bytes}
-use Rattle.tiff_ifd.proofs.Unpacking.{more_read_at, room_behind}
+use Rattle.tiff_base.specs.lemmas.Contents.{same_bytes}
+use Rattle.tiff_ifd.specs.lemmas.Unpacking.{more_read_at, room_behind}
 use Rattle.tiff_ifd.proofs.packbits.PackBitsCursor.fill.Goals as goal
 
 pub loop-done-preserved : goal.loop-done-preserved

@@ -1,5 +1,5 @@
 use Rattle.std.proofs.Common.{arith, List, ℕ, ◌+◌, ◌-◌, sym, subst}
-use Rattle.tiff_base.proofs.Contents.{same_bytes}
+use Rattle.tiff_base.specs.lemmas.Contents.{same_bytes}
 use Rattle.tiff_ifd.specs.Unpacking.{left_at, GivesNext}
 use Rattle.tiff_ifd.proofs.Ahead.{ahead_told, front_gives}
 use Rattle.tiff_ifd.proofs.packbits.PackBitsCursor.read_blocks.Goals as goal

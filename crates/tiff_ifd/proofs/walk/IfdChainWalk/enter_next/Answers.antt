@@ -1,6 +1,6 @@
 use Rattle.std.proofs.Common.{rules, refl}
 use Rattle.std.proofs.lemmas.Result.{err_from_is_err_and}
-use Rattle.tiff_ifd.proofs.Begun.{begins_entered, cut_unentered, cut_unread, ends_none, entered_by, refused_unentered, refused_unread}
+use Rattle.tiff_ifd.specs.lemmas.Begun.{begins_entered, cut_unentered, cut_unread, ends_none, entered_by, refused_unentered, refused_unread}
 use Rattle.tiff_ifd.proofs.walk.IfdChainWalk.enter_next.Goals as goal
 
 pub returns-in_default-clause-end : goal.returns-in_default-clause-end

@@ -1,9 +1,9 @@
 use Rattle.std.proofs.Common.{arith, ap, sym, ◌∙◌, subst, length, List, ℕ, None}
 use Rattle.std.proofs.lemmas.List.{length-append}
 use Rattle.std.proofs.lemmas.Result.{err_from_is_err_and}
-use Rattle.tiff_base.proofs.Contents.{same_bytes}
+use Rattle.tiff_base.specs.lemmas.Contents.{same_bytes}
 use Rattle.tiff_ifd.specs.IfdChainWalk.{ChainBegins}
-use Rattle.tiff_ifd.proofs.Begun.{begun_same, offset_begun, is_there}
+use Rattle.tiff_ifd.specs.lemmas.Begun.{begun_same, offset_begun, is_there}
 use Rattle.tiff_ifd.proofs.Passed.{grown_over, longer_over, none_further, none_over, refused_same, way_asked, way_cut}
 use Rattle.tiff_ifd.proofs.walk.IfdChainWalk.offset_of.Goals as goal
 

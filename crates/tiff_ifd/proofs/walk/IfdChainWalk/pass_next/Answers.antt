@@ -1,6 +1,6 @@
 use Rattle.std.proofs.Common.{rules, refl}
 use Rattle.std.proofs.lemmas.Result.{err_from_is_err_and}
-use Rattle.tiff_ifd.proofs.Begun.{ends_none}
+use Rattle.tiff_ifd.specs.lemmas.Begun.{ends_none}
 use Rattle.tiff_ifd.proofs.Passed.{begins_passed, cut_unlinked, cut_unpassed, one_passed, refused_unlinked, refused_unpassed}
 use Rattle.tiff_ifd.proofs.walk.IfdChainWalk.pass_next.Goals as goal
 

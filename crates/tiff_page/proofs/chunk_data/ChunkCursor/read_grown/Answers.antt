@@ -1,7 +1,7 @@
 use Rattle.std.proofs.Common.{arith, ◌+◌, ◌-◌, ◌≤◌, length, take, drop}
 use Rattle.std.proofs.lemmas.Grind.{common_steps}
 use Rattle.std.proofs.lemmas.Result.{err_from_is_err_and}
-use Rattle.tiff_page.proofs.Requests.{more_asked, moves_on}
+use Rattle.tiff_page.specs.lemmas.Requests.{more_asked, moves_on}
 use Rattle.tiff_page.proofs.chunk_data.ChunkCursor.read_grown.Goals as goal
 
 pub returns-in_err-read-clause-asked : goal.returns-in_err-read-clause-asked

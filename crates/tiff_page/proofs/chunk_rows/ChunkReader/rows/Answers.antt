@@ -1,6 +1,6 @@
 use Rattle.std.proofs.Common.{arith, ◌≡◌, ℕ, ◌<◌, ◌≤◌, ◌∙◌, ◌+◌, ◌-◌, ◌*◌, ◌/◌, ◌%◌, length, refl, drop, ap, subst}
 use Rattle.std.proofs.lemmas.Result.{err_from_is_err_and, on_ok_weaker}
-use Rattle.tiff_base.proofs.Contents.{same_bytes}
+use Rattle.tiff_base.specs.lemmas.Contents.{same_bytes}
 use Rattle.tiff_page.specs.Counts.{all_chunks}
 use Rattle.tiff_page.specs.Layout.{row_bytes}
 use Rattle.tiff_page.specs.Pixels.{chunk_data}
@@ -8,10 +8,10 @@ use Rattle.tiff_page.specs.BufferPositions.{filled_to, Writes, IsIn, in_rect, ch
 use Rattle.tiff_page.specs.Rect.{rect}
 use Rattle.tiff_page.specs.ChunkData.{bytes_left}
 use Rattle.tiff_page.specs.PageView as view
-use Rattle.tiff_page.proofs.Requests.{front_stands, stands_on, chunk_asked}
-use Rattle.tiff_page.proofs.Bands.{rows_below, band_within, band_of_numbers, band_put, band_bytes_are, band_held, next_band, short_band}
-use Rattle.tiff_page.proofs.Rects.{put_filled, rows_filled, no_row, writes_as}
-use Rattle.tiff_page.proofs.PositionLaws.{sides_of}
+use Rattle.tiff_page.specs.lemmas.Requests.{front_stands, stands_on, chunk_asked}
+use Rattle.tiff_page.specs.lemmas.Bands.{rows_below, band_within, band_of_numbers, band_put, band_bytes_are, band_held, next_band, short_band}
+use Rattle.tiff_page.specs.lemmas.Rects.{put_filled, rows_filled, no_row, writes_as}
+use Rattle.tiff_page.specs.lemmas.PositionLaws.{sides_of}
 use Rattle.tiff_page.proofs.chunk_rows.ChunkReader.rows.Goals as goal
 
 pub loop-row-init : goal.loop-row-init

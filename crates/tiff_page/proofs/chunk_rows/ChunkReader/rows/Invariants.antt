@@ -5,7 +5,7 @@ use Rattle.tiff_page.specs.BufferPositions.{filled_to, Writes, IsIn, in_rect, ch
 use Rattle.tiff_page.specs.Rect.{rect}
 use Rattle.tiff_page.specs.ChunkData.{bytes_left}
 use Rattle.tiff_page.specs.PageView as view
-use Rattle.tiff_page.proofs.Requests.{StandsAt}
+use Rattle.tiff_page.specs.lemmas.Requests.{StandsAt}
 use Rattle.tiff_page.proofs.chunk_rows.ChunkReader.rows.Given as goal
 
 -- the rows so far are in the list, filled up with zeros, and the data contain them; the next row is

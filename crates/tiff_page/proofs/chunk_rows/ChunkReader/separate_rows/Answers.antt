@@ -1,7 +1,7 @@
 use Rattle.std.proofs.Common.{arith, ◌≡◌, ℕ, ◌<◌, ◌≤◌, ◌∙◌, ◌+◌, ◌-◌, ◌*◌, List, length, refl, drop, ap, sym, subst}
 use Rattle.std.proofs.Math.Nat.{mul-le-mul_right}
 use Rattle.std.proofs.lemmas.Result.{err_from_is_err_and}
-use Rattle.tiff_base.proofs.Contents.{same_bytes}
+use Rattle.tiff_base.specs.lemmas.Contents.{same_bytes}
 use Rattle.tiff_page.specs.Pixels.{chunk_data, stored_row_bytes, needed_of_row}
 use Rattle.tiff_page.specs.Counts.{all_chunks}
 use Rattle.tiff_page.specs.Layout.{row_bytes}
@@ -9,12 +9,12 @@ use Rattle.tiff_page.specs.Rect.{rect}
 use Rattle.tiff_page.specs.BufferPositions.{Writes, IsIn, in_rect, chunk_byte}
 use Rattle.tiff_page.specs.ChunkData.{bytes_left}
 use Rattle.tiff_page.specs.PageView as view
-use Rattle.tiff_page.proofs.ChunkRows.{need_within}
+use Rattle.tiff_page.specs.lemmas.ChunkRows.{need_within}
 use Rattle.tiff_page.specs.Reach.{Moves}
-use Rattle.tiff_page.proofs.Requests.{chunk_asked, front_stands, row_asked, behind_asked, next_stands, stands_on}
-use Rattle.tiff_page.proofs.Bands.{row_below, width_within, row_some, row_bytes_are, row_held, next_row, too_short}
-use Rattle.tiff_page.proofs.Rects.{no_row, row_put_there, row_room}
-use Rattle.tiff_page.proofs.PositionLaws.{sides_of}
+use Rattle.tiff_page.specs.lemmas.Requests.{chunk_asked, front_stands, row_asked, behind_asked, next_stands, stands_on}
+use Rattle.tiff_page.specs.lemmas.Bands.{row_below, width_within, row_some, row_bytes_are, row_held, next_row, too_short}
+use Rattle.tiff_page.specs.lemmas.Rects.{no_row, row_put_there, row_room}
+use Rattle.tiff_page.specs.lemmas.PositionLaws.{sides_of}
 use Rattle.tiff_page.proofs.chunk_rows.ChunkReader.separate_rows.Goals as goal
 
 pub loop-row-init : goal.loop-row-init

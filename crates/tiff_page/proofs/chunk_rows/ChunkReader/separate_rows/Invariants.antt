@@ -5,7 +5,7 @@ use Rattle.tiff_page.specs.BufferPositions.{Writes, IsIn, in_rect, chunk_byte}
 use Rattle.tiff_page.specs.Rect.{rect}
 use Rattle.tiff_page.specs.ChunkData.{bytes_left}
 use Rattle.tiff_page.specs.PageView as view
-use Rattle.tiff_page.proofs.Requests.{StandsAt}
+use Rattle.tiff_page.specs.lemmas.Requests.{StandsAt}
 use Rattle.tiff_page.proofs.chunk_rows.ChunkReader.separate_rows.Given as goal
 
 -- the rows so far are in the buffer, and the data contain them; the next row is at the position

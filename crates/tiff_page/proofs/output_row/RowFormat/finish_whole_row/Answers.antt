@@ -1,6 +1,6 @@
 use Rattle.std.proofs.Common.{◌≡◌, ◌∙◌, ◌*◌, length, arith, sym}
 use Rattle.tiff_page.specs.PageView as view
-use Rattle.tiff_page.proofs.OutputRow.{whole, whole_deep, whole_handed, shown_bytes, stored_fill}
+use Rattle.tiff_page.specs.lemmas.OutputRow.{whole, whole_deep, whole_handed, shown_bytes, stored_fill}
 use Rattle.tiff_page.proofs.output_row.RowFormat.finish_whole_row.Goals as goal
 
 pub keep_pixels-requires-clause-row : goal.keep_pixels-requires-clause-row

@@ -2,9 +2,9 @@ use Rattle.std.proofs.Common.{rules, arith, ℕ, List, ◌≡◌, ◌*◌, ◌/�
 use Rattle.tiff_page.specs.ChunkData.{bytes_left}
 use Rattle.tiff_page.specs.PageView as view
 use Rattle.tiff_page.specs.Row.{SwapsBytes}
-use Rattle.tiff_page.proofs.OutputRow.{holds_same, holds_turned}
-use Rattle.tiff_page.proofs.NumberBytes.{all_of_room}
-use Rattle.tiff_page.proofs.ChunkRows.{row_taken}
+use Rattle.tiff_page.specs.lemmas.OutputRow.{holds_same, holds_turned}
+use Rattle.tiff_page.specs.lemmas.NumberBytes.{all_of_room}
+use Rattle.tiff_page.specs.lemmas.ChunkRows.{row_taken}
 use Rattle.tiff_page.proofs.output_row.RowFormat.read_finished.Goals as goal
 
 pub returns-then-needs_swap-clause-row : goal.returns-then-needs_swap-clause-row

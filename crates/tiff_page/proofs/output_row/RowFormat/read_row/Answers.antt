@@ -1,6 +1,6 @@
 use Rattle.std.proofs.Common.{length}
 use Rattle.tiff_page.specs.PageView as view
-use Rattle.tiff_page.proofs.ChunkRows.{row_of_numbers}
+use Rattle.tiff_page.specs.lemmas.ChunkRows.{row_of_numbers}
 use Rattle.tiff_page.proofs.output_row.RowFormat.read_row.Goals as goal
 
 pub read_finished-requires-clause-whole : goal.read_finished-requires-clause-whole

@@ -2,7 +2,7 @@ use Rattle.std.proofs.Common.{◌<◌, length}
 use Rattle.std.proofs.lemmas.Result.{err_from_is_err_and}
 use Rattle.tiff_page.specs.ChunkData.{bytes_left}
 use Rattle.tiff_page.specs.PageView as view
-use Rattle.tiff_page.proofs.ChunkRows.{whole_cause}
+use Rattle.tiff_page.specs.lemmas.ChunkRows.{whole_cause}
 use Rattle.tiff_page.proofs.output_row.RowFormat.read_whole_row.Goals as goal
 
 pub returns-in_err-read_grown-clause-row : goal.returns-in_err-read_grown-clause-row

@@ -3,7 +3,7 @@ use Rattle.std.proofs.lemmas.Result.{err_from_is_err_and}
 use Rattle.tiff_base.specs.Answers.{IsCause}
 use Rattle.tiff_base.specs.declared.error.TiffError.TheVariants.{IoError}
 use Rattle.tiff_base.specs.declared.io.IoKind.TheVariants.{UnexpectedEof}
-use Rattle.tiff_base.proofs.Contents.{same_bytes}
+use Rattle.tiff_base.specs.lemmas.Contents.{same_bytes}
 use Rattle.tiff_page.specs.Pixels.{is_short}
 use Rattle.tiff_page.specs.PixelFault.{chunk_fault, each_below, fail_if}
 use Rattle.tiff_page.specs.BufferPositions.{filled_to, Writes, IsBefore, WritesPlanes, image_byte}
@@ -12,11 +12,11 @@ use Rattle.tiff_page.specs.PixelCalls.{chunk_part}
 use Rattle.tiff_page.specs.Reach.{PartReadable}
 use Rattle.tiff_page.specs.Rect.{rect, across, chunks_of_plane}
 use Rattle.tiff_page.specs.PageView as view
-use Rattle.tiff_page.proofs.Covering.{planes_written}
+use Rattle.tiff_page.specs.lemmas.Covering.{planes_written}
 use Rattle.tiff_page.proofs.ChunkBands as bands
-use Rattle.tiff_page.proofs.Filling.{chunk_cause, chunk_room, color_is, image_filled, of_chunk, one_more, planes_next, size_is, stride_some}
-use Rattle.tiff_page.proofs.PositionLaws.{chunks_within, parts_some, sides_of}
-use Rattle.tiff_page.proofs.Requests.{image_asked}
+use Rattle.tiff_page.specs.lemmas.Filling.{chunk_cause, chunk_room, color_is, image_filled, of_chunk, one_more, planes_next, size_is, stride_some}
+use Rattle.tiff_page.specs.lemmas.PositionLaws.{chunks_within, parts_some, sides_of}
+use Rattle.tiff_page.specs.lemmas.Requests.{image_asked}
 use Rattle.tiff_page.proofs.page_reader.PageReader.image.Goals as goal
 
 pub tile_rows_at_once-rows-requires : goal.tile_rows_at_once-rows-requires

@@ -6,9 +6,9 @@ use Rattle.tiff_page.specs.ChunkBands.{AreImageRows, PutsImageRows}
 use Rattle.tiff_page.specs.Rect.{rect}
 use Rattle.tiff_page.specs.PageView as view
 use Rattle.tiff_page.proofs.ChunkBands as bands
-use Rattle.tiff_page.proofs.Rects.{put_filled, rows_filled}
-use Rattle.tiff_page.proofs.Filling.{row_is, stride_some}
-use Rattle.tiff_page.proofs.PositionLaws.{sides_of}
+use Rattle.tiff_page.specs.lemmas.Rects.{put_filled, rows_filled}
+use Rattle.tiff_page.specs.lemmas.Filling.{row_is, stride_some}
+use Rattle.tiff_page.specs.lemmas.PositionLaws.{sides_of}
 use Rattle.tiff_page.proofs.page_reader.PageReader.image_rows.Goals as goal
 
 pub overflow_add-end : goal.overflow_add-end

@@ -3,16 +3,16 @@ use Rattle.std.proofs.lemmas.Result.{err_from_is_err_and}
 use Rattle.tiff_base.specs.Answers.{IsCause}
 use Rattle.tiff_base.specs.declared.error.TiffError.TheVariants.{IoError}
 use Rattle.tiff_base.specs.declared.io.IoKind.TheVariants.{UnexpectedEof}
-use Rattle.tiff_base.proofs.Contents.{same_bytes}
+use Rattle.tiff_base.specs.lemmas.Contents.{same_bytes}
 use Rattle.tiff_page.specs.PixelCalls.{chunk_part}
 use Rattle.tiff_page.specs.PixelFault.{fail_if, form_fault}
 use Rattle.tiff_page.specs.Pixels.{is_short}
 use Rattle.tiff_page.specs.BufferPositions.{filled_to, HasRoom, WritesPlanes}
 use Rattle.tiff_page.specs.Rect.{rect, chunks_of_plane}
 use Rattle.tiff_page.specs.PageView as view
-use Rattle.tiff_page.proofs.Filling.{form_cause, rows_cause, plane_none, plane_more, plane_room}
-use Rattle.tiff_page.proofs.Requests.{part_asked}
-use Rattle.tiff_page.proofs.Planes.{form_read, method_passed}
+use Rattle.tiff_page.specs.lemmas.Filling.{form_cause, rows_cause, plane_none, plane_more, plane_room}
+use Rattle.tiff_page.specs.lemmas.Requests.{part_asked}
+use Rattle.tiff_page.specs.lemmas.Planes.{form_read, method_passed}
 use Rattle.tiff_page.proofs.page_reader.PageReader.plane_chunks.Goals as goal
 
 pub returns-in_err-form_fault-clause-answer : goal.returns-in_err-form_fault-clause-answer

@@ -1,14 +1,14 @@
 use Rattle.std.proofs.Common.{◌≡◌, ◌∙◌, ◌*◌, ℕ, List, [], Ok, ap, arith, map, sym}
 use Rattle.std.specs.Int.{div_ceil}
 use Rattle.std.proofs.lemmas.Result.{err_from_is_err_and}
-use Rattle.tiff_base.proofs.Contents.{same_bytes}
+use Rattle.tiff_base.specs.lemmas.Contents.{same_bytes}
 use Rattle.tiff_page.specs.BufferPositions.{filled_to}
 use Rattle.tiff_page.specs.NumberBytes.{bytes_in, no_bytes, whole_enough}
 use Rattle.tiff_page.specs.Samples.{color_in, first_in, room_of}
 use Rattle.tiff_page.specs.PageView as view
-use Rattle.tiff_page.proofs.Requests.{filling_cause, zeros_filled, first_readable, portion_filled}
-use Rattle.tiff_page.proofs.PositionLaws.{sides_of}
-use Rattle.tiff_page.proofs.Rects.{none_filled}
+use Rattle.tiff_page.specs.lemmas.Requests.{filling_cause, zeros_filled, first_readable, portion_filled}
+use Rattle.tiff_page.specs.lemmas.PositionLaws.{sides_of}
+use Rattle.tiff_page.specs.lemmas.Rects.{none_filled}
 use Rattle.tiff_page.proofs.page_reader.PageReader.read_as.Goals as goal
 
 pub returns-clause-answer : goal.returns-clause-answer

@@ -1,13 +1,13 @@
 use Rattle.std.proofs.Common.{◌≡◌, ◌∙◌, [], Ok, ap, arith, refl, sym}
 use Rattle.std.proofs.lemmas.Result.{err_from_is_err_and}
-use Rattle.tiff_base.proofs.Contents.{same_bytes}
+use Rattle.tiff_base.specs.lemmas.Contents.{same_bytes}
 use Rattle.tiff_page.specs.BufferPositions.{filled_to}
 use Rattle.tiff_page.specs.Samples.{color_in, first_in}
 use Rattle.tiff_page.specs.PageView as view
 use Rattle.tiff_page.specs.declared.layout.DecodingSampleType.TheVariants as type
-use Rattle.tiff_page.proofs.Requests.{portion_early, bytes_given, filling_cause, first_readable, portion_filled}
-use Rattle.tiff_page.proofs.PositionLaws.{sides_of}
-use Rattle.tiff_page.proofs.Rects.{none_filled}
+use Rattle.tiff_page.specs.lemmas.Requests.{portion_early, bytes_given, filling_cause, first_readable, portion_filled}
+use Rattle.tiff_page.specs.lemmas.PositionLaws.{sides_of}
+use Rattle.tiff_page.specs.lemmas.Rects.{none_filled}
 use Rattle.tiff_page.proofs.page_reader.PageReader.read_bytes.Goals as goal
 
 pub returns-in_err-bytes-clause-answer : goal.returns-in_err-bytes-clause-answer

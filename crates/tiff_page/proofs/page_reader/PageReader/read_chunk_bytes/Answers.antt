@@ -5,7 +5,7 @@ use Rattle.tiff_page.specs.Buffers.{planes_layout}
 use Rattle.tiff_page.specs.PixelCalls.{chunk_part, room_fault}
 use Rattle.tiff_page.specs.Rect.{rect}
 use Rattle.std.proofs.lemmas.Grind.{common_steps}
-use Rattle.tiff_page.proofs.Requests.{chunk_form, laid_asked}
+use Rattle.tiff_page.specs.lemmas.Requests.{chunk_form, laid_asked}
 use Rattle.tiff_page.proofs.page_reader.PageReader.read_chunk_bytes.Goals as goal
 
 pub returns-in_err-form_fault-clause-answer : goal.returns-in_err-form_fault-clause-answer

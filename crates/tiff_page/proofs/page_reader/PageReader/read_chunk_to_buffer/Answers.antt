@@ -1,7 +1,7 @@
 use Rattle.tiff_page.specs.Rect.{rect}
 use Rattle.tiff_page.specs.PageView as view
 use Rattle.tiff_page.specs.Buffers.{planes_layout}
-use Rattle.tiff_page.proofs.Requests.{strided_asked}
+use Rattle.tiff_page.specs.lemmas.Requests.{strided_asked}
 use Rattle.tiff_page.proofs.page_reader.PageReader.read_chunk_to_buffer.Goals as goal
 
 pub returns-clause-asked : goal.returns-clause-asked

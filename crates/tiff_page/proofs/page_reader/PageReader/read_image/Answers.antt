@@ -2,7 +2,7 @@ use Rattle.std.proofs.Common.{refl}
 use Rattle.tiff_page.specs.PageView as view
 use Rattle.tiff_page.specs.Buffers.{planes_layout}
 use Rattle.tiff_page.specs.PixelCalls.{image_part}
-use Rattle.tiff_page.proofs.Requests.{laid_asked}
+use Rattle.tiff_page.specs.lemmas.Requests.{laid_asked}
 use Rattle.tiff_page.proofs.page_reader.PageReader.read_image.Goals as goal
 
 pub returns-clause-asked : goal.returns-clause-asked

@@ -4,7 +4,7 @@ use Rattle.tiff_page.specs.PageView as view
 use Rattle.tiff_page.specs.Buffers.{planes_layout}
 use Rattle.tiff_page.specs.PixelCalls.{image_part, planes_used, room_fault}
 use Rattle.std.proofs.lemmas.Grind.{common_steps}
-use Rattle.tiff_page.proofs.Requests.{image_form, laid_asked}
+use Rattle.tiff_page.specs.lemmas.Requests.{image_form, laid_asked}
 use Rattle.tiff_page.proofs.page_reader.PageReader.read_image_bytes.Goals as goal
 
 pub returns-in_err-form_fault-clause-answer : goal.returns-in_err-form_fault-clause-answer

@@ -3,7 +3,7 @@ use Rattle.std.proofs.lemmas.Result.{err_from_is_err_and}
 use Rattle.tiff_page.specs.PageView as view
 use Rattle.tiff_page.specs.Buffers.{planes_layout}
 use Rattle.tiff_page.specs.PixelCalls.{image_part, planes_within}
-use Rattle.tiff_page.proofs.Requests.{laid_asked}
+use Rattle.tiff_page.specs.lemmas.Requests.{laid_asked}
 use Rattle.tiff_page.proofs.page_reader.PageReader.read_image_to_buffer.Goals as goal
 
 pub returns-in_err-samples-clause-asked : goal.returns-in_err-samples-clause-asked

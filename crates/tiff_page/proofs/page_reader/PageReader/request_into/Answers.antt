@@ -2,7 +2,7 @@ use Rattle.std.proofs.Common.{rules, arith, ap, List, â„•, length, subst, sym, â
 use Rattle.tiff_base.specs.Answers.{Answers}
 use Rattle.tiff_page.specs.BufferPositions.{filled_to}
 use Rattle.tiff_page.specs.Samples.{request_bytes}
-use Rattle.tiff_page.proofs.Rects.{filled_full}
+use Rattle.tiff_page.specs.lemmas.Rects.{filled_full}
 use Rattle.tiff_page.proofs.page_reader.PageReader.request_into.Goals as goal
 
 pub returns-clause-answer : goal.returns-clause-answer

@@ -6,8 +6,8 @@ use Rattle.tiff_page.specs.BufferPositions.{filled_to}
 use Rattle.tiff_page.specs.Rect.{rect}
 use Rattle.tiff_page.specs.Samples.{IsLaid, request_bytes, room_of}
 use Rattle.tiff_page.specs.PageView as view
-use Rattle.tiff_page.proofs.Filling.{unit_given, unit_room}
-use Rattle.tiff_page.proofs.PositionLaws.{sides_of}
+use Rattle.tiff_page.specs.lemmas.Filling.{unit_given, unit_room}
+use Rattle.tiff_page.specs.lemmas.PositionLaws.{sides_of}
 use Rattle.tiff_page.proofs.page_reader.PageReader.requested.Goals as goal
 
 pub plane_chunks-requires-clause-fits : goal.plane_chunks-requires-clause-fits

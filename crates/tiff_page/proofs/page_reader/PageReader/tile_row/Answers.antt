@@ -2,16 +2,16 @@ use Rattle.std.proofs.Common.{arith, Ok, Err, ap, subst, ◌≡◌, ℕ, List, �
 use Rattle.std.proofs.lemmas.Result.{err_from_is_err_and}
 use Rattle.std.proofs.Math.Nat.{le-mul_of_pos_right}
 use Rattle.tiff_base.specs.Answers.{IsCause}
-use Rattle.tiff_base.proofs.Contents.{same_bytes}
-use Rattle.tiff_base.proofs.Causes.{cause_along}
+use Rattle.tiff_base.specs.lemmas.Contents.{same_bytes}
+use Rattle.tiff_base.specs.lemmas.Causes.{cause_along}
 use Rattle.tiff_page.specs.Layout.{row_bytes}
 use Rattle.tiff_page.specs.BufferPositions.{filled_to, image_byte}
 use Rattle.tiff_page.specs.ChunkBands.{AreBanded, WritesImageRows, rows_fault}
 use Rattle.tiff_page.specs.Rect.{rect, across}
 use Rattle.tiff_page.specs.PageView as view
 use Rattle.tiff_page.proofs.ChunkBands as bands
-use Rattle.tiff_page.proofs.Filling.{stride_some}
-use Rattle.tiff_page.proofs.PositionLaws.{sides_of}
+use Rattle.tiff_page.specs.lemmas.Filling.{stride_some}
+use Rattle.tiff_page.specs.lemmas.PositionLaws.{sides_of}
 use Rattle.tiff_page.proofs.page_reader.PageReader.tile_row.Goals as goal
 
 pub rows_of_piece-most-requires : goal.rows_of_piece-most-requires

@@ -3,8 +3,8 @@ use Rattle.std.proofs.lemmas.Result.{err_from_is_err_and}
 use Rattle.tiff_base.specs.Answers.{IsCause}
 use Rattle.tiff_base.specs.declared.error.TiffError.TheVariants.{IoError}
 use Rattle.tiff_base.specs.declared.io.IoKind.TheVariants.{UnexpectedEof}
-use Rattle.tiff_base.proofs.Contents.{same_bytes}
-use Rattle.tiff_base.proofs.Causes.{cause_along}
+use Rattle.tiff_base.specs.lemmas.Contents.{same_bytes}
+use Rattle.tiff_base.specs.lemmas.Causes.{cause_along}
 use Rattle.tiff_page.specs.PixelCalls.{image_part}
 use Rattle.tiff_page.specs.PixelFault.{fail_if}
 use Rattle.tiff_page.specs.BufferPositions.{Writes, IsIn, in_rect, image_byte, left_of}
@@ -13,9 +13,9 @@ use Rattle.tiff_page.specs.Rect.{rect, across, chunks_of_plane}
 use Rattle.tiff_page.specs.PageView as view
 use Rattle.tiff_page.specs.declared.page.Page.{Page}
 use Rattle.tiff_page.proofs.ChunkBands as bands
-use Rattle.tiff_page.proofs.Filling.{one_more, first_at, stride_some}
-use Rattle.tiff_page.proofs.Requests.{part_asked}
-use Rattle.tiff_page.proofs.PositionLaws.{plane_few, sides_of}
+use Rattle.tiff_page.specs.lemmas.Filling.{one_more, first_at, stride_some}
+use Rattle.tiff_page.specs.lemmas.Requests.{part_asked}
+use Rattle.tiff_page.specs.lemmas.PositionLaws.{plane_few, sides_of}
 use Rattle.tiff_page.proofs.page_reader.PageReader.tile_row_part.Goals as goal
 
 -- the chunks of a plane are fewer than 2^32

@@ -1,5 +1,5 @@
 use Rattle.std.proofs.lemmas.Result.{on_ok_weaker}
-use Rattle.tiff_page.proofs.NumberBytes.{plain_put}
+use Rattle.tiff_page.specs.lemmas.NumberBytes.{plain_put}
 use Rattle.tiff_page.proofs.row_sink.ByteListRowSink.place.Goals as goal
 
 pub returns-clause-placed : goal.returns-clause-placed

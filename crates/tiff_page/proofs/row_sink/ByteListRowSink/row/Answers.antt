@@ -1,6 +1,6 @@
 use Rattle.std.proofs.Common.{rules, ◌<◌}
 use Rattle.tiff_page.specs.PageView as view
-use Rattle.tiff_page.proofs.NumberBytes.{put_in_list}
+use Rattle.tiff_page.specs.lemmas.NumberBytes.{put_in_list}
 use Rattle.tiff_page.proofs.row_sink.ByteListRowSink.row.Goals as goal
 
 pub returns-clause-row : goal.returns-clause-row

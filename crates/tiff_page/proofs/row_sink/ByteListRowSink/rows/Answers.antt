@@ -5,8 +5,8 @@ use Rattle.std.specs.Prelude.{OnOk}
 use Rattle.tiff_page.specs.Reach.{Moves}
 use Rattle.tiff_page.specs.PageView as view
 use Rattle.tiff_page.specs.RowReads.{RowPut}
-use Rattle.tiff_page.proofs.Rects.{filled_length}
-use Rattle.tiff_page.proofs.NumberBytes.{all_of_room, put_in_list, put_into_bytes}
+use Rattle.tiff_page.specs.lemmas.Rects.{filled_length}
+use Rattle.tiff_page.specs.lemmas.NumberBytes.{all_of_room, put_in_list, put_into_bytes}
 use Rattle.tiff_page.proofs.row_sink.ByteListRowSink.rows.Goals as goal
 
 pub returns-then-next-le-LONGEST_COPIED-clause-row : goal.returns-then-next-le-LONGEST_COPIED-clause-row

@@ -2,8 +2,8 @@ use Rattle.std.proofs.Common.{rules, List, ℕ, ◌+◌, ◌-◌, ◌<◌, subst
 use borrow.Rule.Slice.PartMut.{put_mid}
 use Rattle.tiff_page.specs.PageView as view
 use Rattle.tiff_page.specs.RowReads.{RowPut}
-use Rattle.tiff_page.proofs.Rects.{filled_full}
-use Rattle.tiff_page.proofs.NumberBytes.{put_in_place}
+use Rattle.tiff_page.specs.lemmas.Rects.{filled_full}
+use Rattle.tiff_page.specs.lemmas.NumberBytes.{put_in_place}
 use Rattle.tiff_page.proofs.row_sink.ByteSliceRowSink.rows.Goals as goal
 
 pub returns-clause-row : goal.returns-clause-row

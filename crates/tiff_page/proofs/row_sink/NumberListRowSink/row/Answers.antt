@@ -3,8 +3,8 @@ use Rattle.tiff_page.specs.ChunkData.{bytes_left}
 use Rattle.tiff_page.specs.NumberBytes.{IsPut, bytes_in}
 use Rattle.tiff_page.specs.PageView as view
 use Rattle.tiff_page.specs.RowReads.{PutsRow, TakesRow}
-use Rattle.tiff_page.proofs.Rects.{all_written}
-use Rattle.tiff_page.proofs.NumberBytes.{all_of_room, put_from_room}
+use Rattle.tiff_page.specs.lemmas.Rects.{all_written}
+use Rattle.tiff_page.specs.lemmas.NumberBytes.{all_of_room, put_from_room}
 use Rattle.tiff_page.proofs.row_sink.NumberListRowSink.row.Goals as goal
 
 pub returns-clause-row : goal.returns-clause-row

@@ -1,4 +1,4 @@
-use Rattle.tiff_page.proofs.NumberBytes.{grown_bytes}
+use Rattle.tiff_page.specs.lemmas.NumberBytes.{grown_bytes}
 use Rattle.tiff_page.proofs.row_sink.NumberListRowSink.zeros_to.Goals as goal
 
 pub returns-clause-zeros : goal.returns-clause-zeros

@@ -1,4 +1,4 @@
-use Rattle.tiff_pages.proofs.Planned.{read_by_page}
+use Rattle.tiff_pages.specs.lemmas.Planned.{read_by_page}
 use Rattle.tiff_pages.proofs.plan.PlanReader.read_chunk_bytes.Goals as goal
 
 pub returns-clause-page : goal.returns-clause-page

@@ -1,5 +1,5 @@
 use Rattle.std.proofs.Common.{ℕ, ◌^◌, length, subst, arith}
-use Rattle.tiff_page.proofs.Rows.{number_before, number_within, some_size}
+use Rattle.tiff_page.specs.lemmas.Rows.{number_before, number_within, some_size}
 use Rattle.tiff_rewrite.specs.StoredNumbers.{place_of, plain_number, stored_by, PutsNumber}
 use Rattle.tiff_rewrite.proofs.NumberPlaces.{done_more, kept_more}
 use Rattle.tiff_rewrite.proofs.numbers.SampleRow.put_into.Goals as goal

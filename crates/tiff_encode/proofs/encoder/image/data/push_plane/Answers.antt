@@ -2,7 +2,7 @@ use Rattle.std.proofs.Common.{◌+◌, ◌*◌, ◌<◌, length, map}
 use Rattle.std.specs.Prelude.{slice_index}
 use Rattle.tiff_base.specs.Types.{type_size}
 use Rattle.tiff_value.specs.ColorType.{sample_number}
-use Rattle.tiff_encode.proofs.Data.Cut.{one_pushed, number_at, plane_within}
+use Rattle.tiff_encode.specs.lemmas.Data.Cut.{one_pushed, number_at, plane_within}
 use Rattle.tiff_encode.proofs.encoder.image.data.push_plane.Goals as goal
 
 pub loop-column-preserved : goal.loop-column-preserved

@@ -2,7 +2,7 @@ use Rattle.std.proofs.Common.{◌^◌, ◌%◌, ap, ◌∙◌}
 use Rattle.std.proofs.Math.Nat.{zero-mod}
 use Rattle.tiff_base.specs.Types.{type_size}
 use Rattle.tiff_value.specs.ColorType.{sample_number}
-use Rattle.tiff_encode.proofs.Data.Cut.{one_pushed}
+use Rattle.tiff_encode.specs.lemmas.Data.Cut.{one_pushed}
 use Rattle.tiff_encode.proofs.encoder.image.data.push_zeros.Goals as goal
 
 pub loop-preserved : goal.loop-preserved

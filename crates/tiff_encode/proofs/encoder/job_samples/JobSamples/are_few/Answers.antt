@@ -1,6 +1,6 @@
 use Rattle.std.proofs.Common.{rules, ◌-◌, ◌^◌, ◌<◌, List, ℕ, length, sym, subst, arith}
 use Rattle.tiff_encode.specs.JobSamples.{held_numbers}
-use Rattle.tiff_encode.proofs.JobSamples.{no_more}
+use Rattle.tiff_encode.specs.lemmas.JobSamples.{no_more}
 use Rattle.tiff_encode.proofs.encoder.job_samples.JobSamples.are_few.Goals as goal
 
 pub returns-in-Bytes : goal.returns-in-Bytes

@@ -1,4 +1,4 @@
-use Rattle.tiff_encode.proofs.Shown.Parts.{parts_show}
+use Rattle.tiff_encode.specs.lemmas.Shown.Parts.{parts_show}
 use Rattle.tiff_encode.proofs.Data.Image.{image_leaves_by}
 use Rattle.tiff_encode.proofs.encoder.laws.data.image_leaves.Goals as goal
 

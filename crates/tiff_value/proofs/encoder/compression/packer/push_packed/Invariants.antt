@@ -1,5 +1,5 @@
 use Rattle.std.proofs.Common.{length, ◌-◌}
-use Rattle.tiff_value.proofs.Packing.{AppendsBlocks}
+use Rattle.tiff_value.specs.lemmas.Packing.{AppendsBlocks}
 use Rattle.tiff_value.proofs.encoder.compression.packer.push_packed.Given as goal
 
 abbrev pub invariant-loop-at : goal.invariant-loop-at

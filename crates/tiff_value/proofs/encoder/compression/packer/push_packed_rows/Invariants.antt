@@ -1,6 +1,6 @@
 use Rattle.std.proofs.Common.{◌≡◌, ◌%◌, length}
 use Rattle.std.specs.Slice.Iter.{chunks_exact_rest, chunks_exact_size}
-use Rattle.tiff_value.proofs.PackedRows.{HasRows}
+use Rattle.tiff_value.specs.lemmas.PackedRows.{HasRows}
 use Rattle.tiff_value.proofs.encoder.compression.packer.push_packed_rows.Given as goal
 
 abbrev pub invariant-loop-one : goal.invariant-loop-one

@@ -1,6 +1,6 @@
 use Rattle.std.proofs.Common.{refl, sym, ◌∙◌}
 use Rattle.tiff_base.specs.Number.{le}
-use Rattle.tiff_value.proofs.Bytes.{bytes_alone}
+use Rattle.tiff_value.specs.lemmas.Bytes.{bytes_alone}
 use Rattle.tiff_value.proofs.Chunk.{spelled_all}
 use Rattle.tiff_value.proofs.encoder.horizontal_predictor.U8Sample.as_bytes.Goals as goal
 

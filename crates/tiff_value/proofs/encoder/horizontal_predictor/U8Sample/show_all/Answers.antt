@@ -1,5 +1,5 @@
 use Rattle.std.proofs.Common.{◌++◌, ap, sym, ◌∙◌}
-use Rattle.tiff_value.proofs.Bytes.{bytes_alone}
+use Rattle.tiff_value.specs.lemmas.Bytes.{bytes_alone}
 use Rattle.tiff_value.proofs.encoder.horizontal_predictor.U8Sample.show_all.Goals as goal
 
 pub returns : goal.returns

@@ -1,5 +1,5 @@
 use Rattle.std.proofs.Common.{◌++◌, ap, sym, ◌∙◌}
-use Rattle.tiff_value.proofs.Bytes.{bytes_alone}
+use Rattle.tiff_value.specs.lemmas.Bytes.{bytes_alone}
 use Rattle.tiff_value.proofs.encoder.numbers.U8TiffScalar.push_all.Goals as goal
 
 pub returns-clause-answer : goal.returns-clause-answer

@@ -1,6 +1,6 @@
 use Rattle.std.proofs.Common.{◌≡◌, ℕ, ◌-◌, ◌%◌, List, replicate, ap, ◌∙◌, subst, arith}
 use Rattle.tiff_value.specs.Written.{WritesRaw}
-use Rattle.tiff_value.proofs.Put.{zeros}
+use Rattle.tiff_value.specs.lemmas.Put.{zeros}
 use Rattle.tiff_value.proofs.encoder.writer.TiffWriter.pad_word_boundary.Goals as goal
 
 pub returns : goal.returns

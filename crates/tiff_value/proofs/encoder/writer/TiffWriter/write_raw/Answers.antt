@@ -2,7 +2,7 @@ use Rattle.std.proofs.Common.{◌≤◌, length, take, drop, inr, ap, ◌∙◌,
 use Rattle.std.proofs.lemmas.List.{take_rest}
 use Rattle.std.proofs.lemmas.Result.{err_from_is_err_and}
 use Rattle.tiff_value.specs.Written.{writer_after}
-use Rattle.tiff_value.proofs.Put.{moved_more, cut_from}
+use Rattle.tiff_value.specs.lemmas.Put.{moved_more, cut_from}
 use Rattle.tiff_value.proofs.encoder.writer.TiffWriter.write_raw.Goals as goal
 
 pub returns-in_err-n : goal.returns-in_err-n

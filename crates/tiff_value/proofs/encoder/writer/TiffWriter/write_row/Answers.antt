@@ -7,7 +7,7 @@ use Rattle.tiff_value.specs.ColorType.{sample_number}
 use Rattle.tiff_value.specs.Differences.{stored_difference}
 use Rattle.tiff_value.specs.Written.{writer_after, IsCut}
 use Rattle.tiff_value.proofs.Bands.{bytes_of, band_next, band_cut, band_long, not_stopped, row_bytes}
-use Rattle.tiff_value.proofs.Put.{writer_none}
+use Rattle.tiff_value.specs.lemmas.Put.{writer_none}
 use Rattle.tiff_value.proofs.encoder.writer.TiffWriter.write_row.Goals as goal
 
 pub loop-at-init : goal.loop-at-init

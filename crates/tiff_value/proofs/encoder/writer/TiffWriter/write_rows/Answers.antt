@@ -7,7 +7,7 @@ use Rattle.tiff_value.specs.ColorType.{sample_number}
 use Rattle.tiff_value.specs.Written.{writer_after, IsCut}
 use Rattle.tiff_value.proofs.Bands.{in_rows, band_next, band_cut, row_between, rows_bytes}
 use Rattle.tiff_value.proofs.Chunk.{row_fits}
-use Rattle.tiff_value.proofs.Put.{writer_none}
+use Rattle.tiff_value.specs.lemmas.Put.{writer_none}
 use Rattle.tiff_value.proofs.encoder.writer.TiffWriter.write_rows.Goals as goal
 
 pub loop-at-init : goal.loop-at-init

@@ -9,7 +9,7 @@ use Rattle.tiff_value.specs.ColorType.{sample_number}
 use Rattle.tiff_value.specs.Written.{writer_after}
 use Rattle.tiff_value.proofs.Bands.{one_row, some_bytes, some_of, told_after, type_band}
 use Rattle.tiff_value.proofs.Chunk.{left_plain, spelled_all}
-use Rattle.tiff_value.proofs.Put.{cut_from, writer_none}
+use Rattle.tiff_value.specs.lemmas.Put.{cut_from, writer_none}
 use Rattle.tiff_value.proofs.encoder.writer.TiffWriter.write_unpredicted.Goals as goal
 
 pub returns-in_err-write_run : goal.returns-in_err-write_run

@@ -3,9 +3,9 @@ use Rattle.tiff_base.specs.Types.{type_size}
 use Rattle.tiff_encode.specs.declared.encoder.image.samples.ImageSamples.TheVariants.{Typed, Stored}
 use Rattle.tiff_encode.specs.Given.{given_numbers}
 use Rattle.tiff_encode.specs.ImageData.{AreNumbers}
-use Rattle.tiff_encode.proofs.NumbersIn.{numbers_small}
-use Rattle.tiff_encode.proofs.Samples.{are_numbers}
-use Rattle.tiff_encode.proofs.Shown.Color.{size_of_type}
+use Rattle.tiff_encode.specs.lemmas.NumbersIn.{numbers_small}
+use Rattle.tiff_encode.specs.lemmas.Samples.{are_numbers}
+use Rattle.tiff_encode.specs.lemmas.Shown.Color.{size_of_type}
 use Rattle.tiff_encode.proofs.encoder.image.samples.ImageSamples.fact_numbers.Goals as goal
 
 pub returns-in-Typed : goal.returns-in-Typed

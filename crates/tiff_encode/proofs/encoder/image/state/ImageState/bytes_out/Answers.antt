@@ -1,6 +1,6 @@
 use Rattle.tiff_base.specs.Types.{type_size}
 use Rattle.std.proofs.Common.{◌∙◌}
-use Rattle.tiff_encode.proofs.Shown.Color.{size_of_type}
+use Rattle.tiff_encode.specs.lemmas.Shown.Color.{size_of_type}
 use Rattle.tiff_encode.proofs.StoredBytes.{strip_numbers}
 use Rattle.tiff_encode.proofs.encoder.image.state.ImageState.bytes_out.Goals as goal
 

@@ -5,7 +5,7 @@ use Rattle.tiff_page.specs.Pixels.{tabulate}
 use Rattle.tiff_value.specs.ColorType.{sample_number}
 use Rattle.tiff_encode.specs.Chunks.{chunk_rows, image_page, row_samples}
 use Rattle.tiff_encode.specs.Parts.{rect_of, IsPatch}
-use Rattle.tiff_encode.proofs.Data.Cut.{by_row, all_rows, rows_pushed, is_patch}
+use Rattle.tiff_encode.specs.lemmas.Data.Cut.{by_row, all_rows, rows_pushed, is_patch}
 use Rattle.tiff_encode.proofs.encoder.image.state.ImageState.cut_out.Goals as goal
 
 pub push_row-requires-clause-part : goal.push_row-requires-clause-part

@@ -3,7 +3,7 @@ use Rattle.tiff_base.specs.Types.{type_size}
 use Rattle.tiff_page.specs.Pixels.{tabulate}
 use Rattle.tiff_value.specs.ColorType.{sample_number}
 use Rattle.tiff_encode.specs.Chunks.{image_page, row_samples}
-use Rattle.tiff_encode.proofs.Data.Cut.{by_row}
+use Rattle.tiff_encode.specs.lemmas.Data.Cut.{by_row}
 use Rattle.tiff_encode.proofs.encoder.image.state.ImageState.cut_out.Given as goal
 
 -- the first rows are cut out

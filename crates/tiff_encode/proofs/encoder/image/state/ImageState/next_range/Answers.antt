@@ -3,7 +3,7 @@ use Rattle.std.proofs.Math.Nat.{mul_assoc}
 use Rattle.tiff_encode.specs.Causes.{image_samples}
 use Rattle.tiff_encode.specs.Chunks.{image_page, row_samples}
 use Rattle.tiff_encode.specs.Drawn.{IsValidImage}
-use Rattle.tiff_encode.proofs.Data.Offsets.{above, within, count_is}
+use Rattle.tiff_encode.specs.lemmas.Data.Offsets.{above, within, count_is}
 use Rattle.tiff_encode.proofs.encoder.image.state.ImageState.next_range.Goals as goal
 
 pub overflow_mul-start : goal.overflow_mul-start

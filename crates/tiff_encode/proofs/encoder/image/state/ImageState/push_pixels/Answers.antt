@@ -8,7 +8,7 @@ use Rattle.tiff_value.specs.ColorType.{sample_number}
 use Rattle.tiff_encode.specs.Causes.{image_samples}
 use Rattle.tiff_encode.specs.Chunks.{image_page}
 use Rattle.tiff_encode.specs.Parts.{rect_of}
-use Rattle.tiff_encode.proofs.Data.Cut.{numbers_of, not_planar, pixels_within, chunky_row, planar_row}
+use Rattle.tiff_encode.specs.lemmas.Data.Cut.{numbers_of, not_planar, pixels_within, chunky_row, planar_row}
 use Rattle.tiff_encode.proofs.encoder.image.state.ImageState.push_pixels.Goals as goal
 
 pub overflow_mul-start-2 : goal.overflow_mul-start-2

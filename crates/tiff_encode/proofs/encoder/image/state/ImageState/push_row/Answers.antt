@@ -3,7 +3,7 @@ use Rattle.tiff_base.specs.Types.{type_size}
 use Rattle.tiff_value.specs.ColorType.{sample_number}
 use Rattle.tiff_encode.specs.Chunks.{image_page}
 use Rattle.tiff_encode.specs.Parts.{rect_of}
-use Rattle.tiff_encode.proofs.Data.Cut.{told_on, row_pushed}
+use Rattle.tiff_encode.specs.lemmas.Data.Cut.{told_on, row_pushed}
 use Rattle.tiff_encode.proofs.encoder.image.state.ImageState.push_row.Goals as goal
 
 pub returns : goal.returns

@@ -1,6 +1,6 @@
 use Rattle.std.proofs.Common.{◌<◌, ap, sym, ◌∙◌, subst}
 use Rattle.tiff_encode.specs.Chunks.{image_page}
-use Rattle.tiff_encode.proofs.ImageState.{strip_rows}
+use Rattle.tiff_encode.specs.lemmas.ImageState.{strip_rows}
 use Rattle.tiff_encode.proofs.encoder.image.state.ImageState.rows_of.Goals as goal
 
 pub returns-in-Strip-clause-count : goal.returns-in-Strip-clause-count

@@ -3,7 +3,7 @@ use Rattle.tiff_base.specs.Types.{type_size}
 use Rattle.tiff_page.specs.Pixels.{numbers_in}
 use Rattle.tiff_value.specs.ColorType.{sample_number}
 use Rattle.tiff_encode.specs.JobValues.{cut_to}
-use Rattle.tiff_encode.proofs.JobSamples.{small_cut}
+use Rattle.tiff_encode.specs.lemmas.JobSamples.{small_cut}
 use Rattle.tiff_encode.proofs.Running.Images.{cut_moves}
 use Rattle.tiff_encode.proofs.encoder.jobs.finish.DirectoryEncoder+W+K+ImageState+C.write_numbers.Goals as goal
 

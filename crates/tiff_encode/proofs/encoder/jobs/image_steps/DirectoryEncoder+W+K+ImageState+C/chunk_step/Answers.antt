@@ -6,7 +6,7 @@ use Rattle.tiff_encode.specs.Calls.{write_chunk}
 use Rattle.tiff_encode.specs.Causes.{write_chunk_cause}
 use Rattle.tiff_encode.specs.JobValues.{cut_to}
 use Rattle.tiff_encode.proofs.Image.StepsStored.{unfound_draws}
-use Rattle.tiff_encode.proofs.JobSamples.{small_cut}
+use Rattle.tiff_encode.specs.lemmas.JobSamples.{small_cut}
 use Rattle.tiff_encode.proofs.encoder.jobs.image_steps.DirectoryEncoder+W+K+ImageState+C.chunk_step.Goals as goal
 
 pub returns-in-Some-clause-draws : goal.returns-in-Some-clause-draws

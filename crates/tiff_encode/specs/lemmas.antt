@@ -1,0 +1,13 @@
+-- Lemmas that proofs of other crates cite. Each is proved here, and no contract needs them.
+pub mod Data
+pub mod FormerBytes
+pub mod GoingOn
+pub mod Header
+pub mod ImageState
+pub mod JobSamples
+pub mod Kept
+pub mod LongerChain
+pub mod NumbersIn
+pub mod Samples
+pub mod Shown
+pub mod Slices

@@ -1,0 +1,4 @@
+pub mod Bytes
+pub mod Color
+pub mod Offsets
+pub mod Parts
