@@ -267,7 +267,7 @@ fn add_full_streams(report: &mut Report) -> TiffResult<()> {
         let (mut out_room, mut err_room) = ([0u8; 5], [0u8; 5]);
         let (mut out, mut err) = (out_room.as_mut_slice(), err_room.as_mut_slice());
         let status = run::<_, _, _, Brand>(alloc, words.as_slice(), &mut files, &mut out, &mut err);
-        report.line(line, (status, out_room, err_room));
+        report.line(line, status);
     }
     Ok(())
 }
