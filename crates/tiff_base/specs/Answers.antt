@@ -1,15 +1,25 @@
 -- What a call may return.
-use Rattle.std.specs.Prelude.{◌≡◌, ℕ, ◌<◌, ◌≤◌, Result, Ok, Err}
+use Rattle.std.specs.Prelude.{◌≡◌, ℕ, ◌<◌, ◌≤◌, ◌||◌, Bool, true, false, Result, Ok, Err}
 use Rattle.tiff_base.specs.declared.error.TiffError.{TiffError}
 use Rattle.tiff_base.specs.declared.error.TiffError.TheVariants.{IoError, OutOfMemory}
 use Rattle.tiff_base.specs.declared.io.IoKind.TheVariants.{Device}
 
+-- the error that memory is out
+abbrev pub is_memory : TiffError → Bool
+is_memory OutOfMemory = true
+is_memory e = false
+
+-- the error that the device failed
+abbrev pub is_device : TiffError → Bool
+is_device (IoError Device) = true
+is_device e = false
+
 -- The reason for an error that a call returns: `OutOfMemory` is allowed if `wanting` holds,
 -- `IoError(Device)` if `failed` holds, and any other error only if `given` holds.
-abbrev pub IsCause : Type 0 → Type 0 → TiffError → Type 0 → Type 0
-IsCause wanting failed OutOfMemory given = wanting
-IsCause wanting failed (IoError Device) given = failed
-IsCause wanting failed e given = given
+pub record IsCause (wanting failed : Type 0) (e : TiffError) (given : Type 0) : Type 0 where
+  pub memory : is_memory e ≡ true → wanting
+  pub device : is_device e ≡ true → failed
+  pub other : is_memory e || is_device e ≡ false → given
 
 -- The result of a call, seen by `view`, is the defined result, except when memory or the device
 -- fails.
@@ -49,13 +59,12 @@ abbrev pub ◌>>=◌ : {A B : Type 0} → Result A TiffError → (A → Result B
 -- A read of the source failed only if the call returns `IoError(Device)`: no failed read is
 -- ignored.
 abbrev pub NoneSwallowed : {X : Type 0} → Result X TiffError → ℕ → ℕ → Type 0
-NoneSwallowed (Err (IoError Device)) before after = Unit {0}
-NoneSwallowed result before after = after ≡ before
+NoneSwallowed (Ok x) before after = after ≡ before
+NoneSwallowed (Err e) before after = is_device e ≡ false → after ≡ before
 
 -- not the error `IoError(Device)`
 abbrev pub IsNotDevice : TiffError → Type 0
-IsNotDevice (IoError Device) = ⊥
-IsNotDevice e = Unit {0}
+IsNotDevice e = is_device e ≡ false
 
 -- A call asks a source for no other bytes: if these bytes are readable, it does not return
 -- `IoError(Device)`. No failed read is ignored. A call that asked for another byte would therefore

@@ -65,11 +65,28 @@ pub fn read_exact_at<R: Source>(source: &mut R, at: u64, buf: &mut [u8]) -> Tiff
     read_rest(source, at, buf, n)
 }
 
+// Reads the last of `len` bytes from offset `at` on, if there are any. Returns
+// `IoError(UnexpectedEof)` if the source has fewer bytes there.
+#[tactic(auto, using(crate::specs::lemmas::Bytes::cut_at_last, crate::specs::lemmas::Bytes::cut_past))]
+fn read_last<R: Source>(source: &mut R, at: u64, len: usize) -> TiffResult<()>
+    ensures kept { IsKept R.contents R.failures result source.old source.new }
+    ensures answer { AnswersWithoutMemory (λ _. bytes_at (R.contents source.old).bytes at len) result
+        (exactly_at (R.contents source.old).bytes at len) (R.failures source.old) (R.failures source.new) }
+    ensures asked { ReadsOnly (AreReadable (R.contents source.old) at len) result }
+{
+    if len == 0 {
+        return Ok(());
+    }
+    let Some(last) = at.checked_add(len as u64 - 1) else {
+        return Err(TiffError::IoError(IoKind::UnexpectedEof));
+    };
+    read_exact_at(source, last, &mut [0u8; 1])
+}
+
 /// Returns the `len` bytes of the source from offset `at` on. Returns `IoError(UnexpectedEof)` if
 /// the source has fewer bytes there. In that case the call allocates nothing, because it reads the
 /// last byte first. The only other errors are those of the device, and `OutOfMemory` if the bytes
 /// are there.
-#[tactic(auto, using(crate::specs::lemmas::Bytes::cut_at_last, crate::specs::lemmas::Bytes::cut_past))]
 pub fn read_bytes_at<R: Source>(
     alloc: Global,
     source: &mut R,
@@ -81,12 +98,7 @@ pub fn read_bytes_at<R: Source>(
         (R.failures source.old) (R.failures source.new) }
     ensures asked { ReadsOnly (AreReadable (R.contents source.old) at len) result }
 {
-    if len > 0 {
-        let Some(last) = at.checked_add(len as u64 - 1) else {
-            return Err(TiffError::IoError(IoKind::UnexpectedEof));
-        };
-        read_exact_at(source, last, &mut [0u8; 1])?;
-    }
+    read_last(source, at, len)?;
     let mut bytes = vec![in alloc; 0u8; len]?;
     read_exact_at(source, at, &mut bytes)?;
     Ok(bytes)

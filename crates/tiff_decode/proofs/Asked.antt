@@ -30,7 +30,7 @@ asked_of P d old e seen asked q = asked (subst P (sym seen) q)
 
 -- an error that says that there is no directory
 pub none_asks : {P : Type 0} (e : TiffError) → e ≡ not_found → P → IsNotDevice e
-none_asks e h p = subst (λ (x : TiffError). IsNotDevice x) (sym h) tt
+none_asks e h p = subst (λ (x : TiffError). IsNotDevice x) (sym h) refl
 
 -- ---- opening
 
@@ -128,4 +128,4 @@ pub sought_past : (d old : Decoding) (index : ℕ) (e fault : TiffError) (open_b
 sought_past d old index e fault true seen asked f q =
     subst (λ (x : TiffError). IsNotDevice x) (sym f) (sought_way d old index e seen asked q)
 sought_past d old index e fault false seen asked f q =
-    subst (λ (x : TiffError). IsNotDevice x) (sym f) tt
+    subst (λ (x : TiffError). IsNotDevice x) (sym f) refl

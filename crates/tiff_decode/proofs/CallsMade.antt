@@ -3,11 +3,11 @@ use Rattle.std.proofs.Common.{◌≡◌, ℕ, ◌+◌, ◌<◌, ◌≤◌, List,
 use Rattle.std.specs.declared.alloc.Global.{Global}
 use Rattle.std.proofs.lemmas.List.{append-nil, append_assoc, take_more, take_all}
 use Rattle.tiff_base.specs.declared.error.TiffError.{TiffError}
-use Rattle.tiff_base.specs.declared.error.TiffError.TheVariants.{FormatError, UnsupportedError, IoError, LimitsExceeded, IntSizeError, UsageError, OutOfMemory}
-use Rattle.tiff_base.specs.declared.io.IoKind.TheVariants.{UnexpectedEof, InvalidData, InvalidInput, WriteZero, Device}
+use Rattle.tiff_base.specs.declared.error.TiffError.TheVariants.{OutOfMemory}
 use Rattle.tiff_base.specs.declared.tags.Tag.{Tag}
 use Rattle.tiff_base.specs.Answers.{Answers, AnswersWithoutMemory, NoneSwallowed}
 use Rattle.tiff_base.specs.Sparing.{IsOkOrList}
+use Rattle.tiff_base.specs.lemmas.Causes.{cause_along, memory_is}
 use Rattle.tiff_page.specs.EarlyFaults.{AllocatesAfter}
 use Rattle.tiff_decode.specs.declared.script.Call.{Call}
 use Rattle.tiff_decode.specs.declared.script.Reply.{Reply}
@@ -30,17 +30,12 @@ pub wanted_after : {X Y : Type 0} (early : Result (Unit {0}) TiffError) (view : 
     → Follows view o r old new → AllocatesAfter early r
     → FollowsBut (IsOkOrList early) view o r old new
 wanted_after early view o (Ok x) old new h w = h
-wanted_after early view o (Err OutOfMemory) old new h w = (w refl, h.1)
-wanted_after early view o (Err (IoError Device)) old new h w = h
-wanted_after early view o (Err (IoError UnexpectedEof)) old new h w = h
-wanted_after early view o (Err (IoError InvalidData)) old new h w = h
-wanted_after early view o (Err (IoError InvalidInput)) old new h w = h
-wanted_after early view o (Err (IoError WriteZero)) old new h w = h
-wanted_after early view o (Err (FormatError x)) old new h w = h
-wanted_after early view o (Err (UnsupportedError x)) old new h w = h
-wanted_after early view o (Err LimitsExceeded) old new h w = h
-wanted_after early view o (Err IntSizeError) old new h w = h
-wanted_after early view o (Err (UsageError x)) old new h w = h
+wanted_after early view o (Err e) old new h w =
+    record {
+      memory = λ is. (w (memory_is e is), (h.memory is).1);
+      device = h.device;
+      other = h.other;
+    }
 
 -- ---- slices of zeros
 
@@ -76,17 +71,7 @@ may_want : {X Y : Type 0} (view : X → Y) (r : Result X TiffError) (given : Res
     (before after : ℕ)
     → AnswersWithoutMemory view r given before after → Answers view r given before after
 may_want view (Ok x) given before after h = h
-may_want view (Err (FormatError e)) given before after h = h
-may_want view (Err (UnsupportedError e)) given before after h = h
-may_want view (Err (IoError UnexpectedEof)) given before after h = h
-may_want view (Err (IoError InvalidData)) given before after h = h
-may_want view (Err (IoError InvalidInput)) given before after h = h
-may_want view (Err (IoError WriteZero)) given before after h = h
-may_want view (Err (IoError Device)) given before after h = h
-may_want view (Err LimitsExceeded) given before after h = h
-may_want view (Err IntSizeError) given before after h = h
-may_want view (Err (UsageError e)) given before after h = h
-may_want view (Err OutOfMemory) given before after h = tt
+may_want view (Err e) given before after h = cause_along e (λ w. absurd w) (λ f. f) (λ g. g) h
 
 pub tag_bytes : (old new : Decoding) (tag : Tag) (len at : ℕ) (xs : List ℕ)
     (r : Result (Option ℕ) TiffError) (b : Vec ℕ Global)
@@ -103,7 +88,12 @@ tag_bytes old new tag len at xs r b zeros h state l swallowed =
 pub nothing_read : {Y : Type 0} (view : Option ℕ → Y) (given : Outcome Y) (d : Decoding)
     → TagsRead (Unit {0}) view given (Err OutOfMemory) d d
 nothing_read view given d =
-    record { answer = tt; state = refl; failures = omega arith; swallowed = refl }
+    record {
+      answer = record { memory = λ _. tt; device = λ is. absurd (cc); other = λ is. absurd (cc) };
+      state = refl;
+      failures = omega arith;
+      swallowed = λ _. refl;
+    }
 
 -- ---- lists of calls
 

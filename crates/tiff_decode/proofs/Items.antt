@@ -5,14 +5,13 @@ use Rattle.std.specs.FinMap.{entries, entries_sorted, is_sorted}
 use Rattle.std.specs.List.{slice_get}
 use Rattle.std.specs.Ordering.{nat_cmp}
 use Rattle.tiff_base.specs.declared.error.TiffError.{TiffError}
-use Rattle.tiff_base.specs.declared.error.TiffError.TheVariants.{FormatError, UnsupportedError, IoError, LimitsExceeded, IntSizeError, UsageError, OutOfMemory}
-use Rattle.tiff_base.specs.declared.io.IoKind.TheVariants.{UnexpectedEof, InvalidData, InvalidInput, WriteZero, Device}
 use Rattle.tiff_base.specs.declared.tags.Tag.{Tag}
 use Rattle.tiff_base.specs.Answers.{IsCause, NoneSwallowed, ◌>>=◌}
 use Rattle.tiff_base.specs.Sparing.{IsWithinLimits}
 use Rattle.tiff_base.specs.Directory.{fields_after}
 use Rattle.tiff_base.specs.Field.{Field, DirectoryRecord}
 use Rattle.tiff_base.specs.lemmas.After.{after_first, after_head}
+use Rattle.tiff_base.specs.lemmas.Causes.{memory_not_device, other_not_device}
 use Rattle.tiff_ifd.specs.PlainValue.{PlainValue}
 use Rattle.tiff_ifd.specs.declared.value.Value.{Value}
 use Rattle.tiff_decode.specs.Items.{fields_left, item_of, items_left, NextItem}
@@ -24,17 +23,11 @@ pub item_refused : (given : Result PlainValue TiffError) (make : PlainValue → 
     → IsCause (IsWithinLimits given) (before < after) e (given ≡ Err e)
     → NoneSwallowed {X = Value} (Err e) before after
     → ItemIs (given >>= make) (Err e) before after
-item_refused given make before after OutOfMemory c l = l
-item_refused given make before after (IoError Device) c l = c
-item_refused given make before after (IoError UnexpectedEof) c l = (ap (λ r. r >>= make) c, l)
-item_refused given make before after (IoError InvalidData) c l = (ap (λ r. r >>= make) c, l)
-item_refused given make before after (IoError InvalidInput) c l = (ap (λ r. r >>= make) c, l)
-item_refused given make before after (IoError WriteZero) c l = (ap (λ r. r >>= make) c, l)
-item_refused given make before after (FormatError x) c l = (ap (λ r. r >>= make) c, l)
-item_refused given make before after (UnsupportedError x) c l = (ap (λ r. r >>= make) c, l)
-item_refused given make before after LimitsExceeded c l = (ap (λ r. r >>= make) c, l)
-item_refused given make before after IntSizeError c l = (ap (λ r. r >>= make) c, l)
-item_refused given make before after (UsageError x) c l = (ap (λ r. r >>= make) c, l)
+item_refused given make before after e c l = record {
+  memory = λ is. l (memory_not_device e is);
+  device = c.device;
+  other = λ is. (ap (λ r. r >>= make) (c.other is), l (other_not_device e is));
+}
 
 -- the first of the fields that are left, and the fields after it
 first_left : (last : Option ℕ) (es : List (ℕ × Field)) (e : ℕ × Field) (rest : List (ℕ × Field))

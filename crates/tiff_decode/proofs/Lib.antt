@@ -10,3 +10,4 @@ pub mod Wraps
 pub mod SampleBytes
 pub mod TagBytes
 pub mod Opened
+pub mod Refusing

@@ -4,6 +4,7 @@ use Rattle.std.proofs.lemmas.List.{take_more, take-append-drop, drop_more}
 use Rattle.tiff_base.specs.declared.error.TiffError.{TiffError}
 use Rattle.tiff_base.specs.declared.tags.Tag.{Tag}
 use Rattle.tiff_base.specs.Answers.{IsCause}
+use Rattle.tiff_base.specs.lemmas.Causes.{named_cause}
 use Rattle.tiff_decode.specs.Reader.{EachGives, FirstUnfit, IsNumber}
 
 each_more : {X E : Type 0} (gives : ℕ → Result X E → Type 0) (ns : List ℕ) (xs : List X) (n : ℕ) (x : X)
@@ -30,7 +31,7 @@ pub first_unfit : {X E : Type 0} (gives : ℕ → Result X E → Type 0) (tag : 
     → IsCause (Unit {0}) ⊥ e (FirstUnfit {X = X} gives tag ns e)
 first_unfit {X} gives tag ns xs i d e l h u =
     let P : TiffError → Type 0 = λ x. IsCause (Unit {0}) ⊥ x (FirstUnfit {X = X} gives tag ns x) in
-    subst P (sym u.2) (record {
+    subst P (sym u.2) (named_cause _ refl (record {
       before = take i ns;
       fitting = xs;
       n = get_or ns i d;
@@ -40,4 +41,4 @@ first_unfit {X} gives tag ns xs i d e l h u =
           ++ rest) (drop_more ns i d l);
       fits = h;
       unfit = (u.0, u.1, refl);
-    })
+    }))

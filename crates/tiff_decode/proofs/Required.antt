@@ -5,7 +5,7 @@ use Rattle.tiff_base.specs.declared.error.TiffError.{TiffError}
 use Rattle.tiff_base.specs.declared.error.TiffError.TheVariants.{FormatError}
 use Rattle.tiff_base.specs.declared.error.TiffFormatError.TheVariants.{RequiredTagNotFound}
 use Rattle.tiff_base.specs.declared.tags.Tag.{Tag}
-use Rattle.tiff_base.specs.Answers.{IsCause, ◌>>=◌}
+use Rattle.tiff_base.specs.Answers.{AnswersBut, IsCause, NoneSwallowed, ◌>>=◌}
 use Rattle.tiff_base.specs.Sparing.{IsFoundWithin}
 use Rattle.tiff_base.specs.lemmas.Causes.{cause_along}
 use Rattle.tiff_ifd.specs.PlainValue.{PlainValue}
@@ -45,6 +45,24 @@ pub unconverted : {A : Type 0} (wanting failed : Type 0) (into : PlainValue → 
     → IsCause wanting failed e (require into look tag ≡ Err e)
 unconverted wanting failed into look tag e c =
     cause_along e (λ w. w) (λ f. f) (λ h. required_by into look tag ∙ ap (λ r. r >>= into) h) c
+
+-- a required value and its conversion, which is the call's
+pub converted : {X Y : Type 0} (wanting failed : Type 0) (view : X → Y)
+    (into : PlainValue → Result Y TiffError) (look : TagLookup) (tag : Tag) (value : PlainValue)
+    (r : Result X TiffError) → require (λ d. Ok d) look tag ≡ Ok value
+    → AnswersBut wanting ⊥ view r (into value)
+    → AnswersBut (IsFoundWithin (look.value tag)) failed view r (require into look tag)
+converted wanting failed view into look tag value (Ok x) found h =
+    required_by into look tag ∙ ap (λ d. d >>= into) found ∙ h
+converted wanting failed view into look tag value (Err e) found h =
+    cause_along e (λ w. required_found (λ d. Ok d) look tag value found) (λ f. absurd f)
+    (λ g. required_by into look tag ∙ ap (λ d. d >>= into) found ∙ g) h
+
+-- no read failed, whether the conversion did
+pub none_failed : {X : Type 0} (r : Result X TiffError) {before after : ℕ} → after ≡ before
+    → NoneSwallowed r before after
+none_failed (Ok x) h = h
+none_failed (Err e) h = λ _. h
 
 -- ---- where memory is allocated
 

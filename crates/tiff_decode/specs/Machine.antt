@@ -1,12 +1,10 @@
 -- A decoder as a state machine (this project's): its state, and the state after a call.
-use Rattle.std.specs.Prelude.{◌≡◌, ℕ, ◌<◌, ◌≤◌, List, Option, Bool, true, false, Result, Ok, Err}
+use Rattle.std.specs.Prelude.{◌≡◌, ℕ, ◌<◌, ◌≤◌, ◌||◌, List, Option, Bool, Result, Ok, Err}
 use Rattle.tiff_base.specs.declared.error.TiffError.{TiffError}
-use Rattle.tiff_base.specs.declared.error.TiffError.TheVariants.{IoError, OutOfMemory}
-use Rattle.tiff_base.specs.declared.io.IoKind.TheVariants.{Device}
 use Rattle.tiff_base.specs.declared.tags.ByteOrder.{ByteOrder}
 use Rattle.tiff_base.specs.declared.tags.FileKind.{FileKind}
 use Rattle.tiff_base.specs.declared.tags.IfdPointer.{IfdPointer}
-use Rattle.tiff_base.specs.Answers.{AnswersBut}
+use Rattle.tiff_base.specs.Answers.{AnswersBut, IsCause, is_device, is_memory}
 use Rattle.tiff_base.specs.Sparing.{IsListFault}
 use Rattle.tiff_base.specs.Field.{DirectoryRecord}
 use Rattle.tiff_base.specs.SourceAndSink.{SourceRecord}
@@ -88,16 +86,13 @@ pub record ReadFailed (old new : Decoding) : Type 0 where
 
 -- the errors that leave the state of a decoder unchanged: out of memory, and an error of the device
 abbrev pub keeps_state : TiffError → Bool
-keeps_state OutOfMemory = true
-keeps_state (IoError Device) = true
-keeps_state e = false
+keeps_state e = is_memory e || is_device e
 
 -- the decoder after an error: out of memory, where the call may allocate, and an error of the
 -- device leave its state unchanged; any other error is the one of the outcome
 abbrev pub Refused : {Y : Type 0} → Type 0 → TiffError → Outcome Y → Decoding → Decoding → Type 0
-Refused wanting OutOfMemory outcome old new = wanting × (new ≡ old)
-Refused wanting (IoError Device) outcome old new = ReadFailed old new
-Refused wanting e outcome old new = GivesOutcome (Err e) outcome old new
+Refused wanting e outcome old new =
+    IsCause (wanting × (new ≡ old)) (ReadFailed old new) e (GivesOutcome (Err e) outcome old new)
 
 -- the result of a call that reads the source, through a view, and the decoder before and after it
 abbrev pub FollowsBut : {X Y : Type 0} → Type 0 → (X → Y) → Outcome Y → Result X TiffError

@@ -2,11 +2,11 @@
 use Rattle.std.specs.Prelude.{◌≡◌, ℕ, ◌<◌, List, [], ◌∷◌, Option, None, Some, Result, Ok, Err, Vec}
 use Rattle.std.specs.declared.alloc.Global.{Global}
 use Rattle.tiff_base.specs.declared.error.TiffError.{TiffError}
-use Rattle.tiff_base.specs.declared.error.TiffError.TheVariants.{IoError, OutOfMemory}
-use Rattle.tiff_base.specs.declared.io.IoKind.TheVariants.{Device}
+use Rattle.tiff_base.specs.declared.error.TiffError.TheVariants.{OutOfMemory}
 use Rattle.tiff_base.specs.declared.tags.Tag.{Tag}
 use Rattle.tiff_base.specs.declared.tags.«Type».TheVariants.{BYTE}
 use Rattle.tiff_base.specs.declared.tags.ByteOrder.{ByteOrder}
+use Rattle.tiff_base.specs.Answers.{IsCause}
 use Rattle.tiff_base.specs.Field.{Field}
 use Rattle.tiff_value.specs.Buffer.{BufferRecord, empty_buffer}
 use Rattle.tiff_ifd.specs.declared.value.Value.{Value}
@@ -29,9 +29,8 @@ use Rattle.tiff_decode.specs.ReplyView.{ReplyView, sees, reply_view}
 abbrev pub ItemIs : Result (Tag × PlainValue) TiffError → Result (Tag × Value) TiffError → ℕ → ℕ
     → Type 0
 ItemIs given (Ok x) before after = (given ≡ Ok (x.0, plain_value x.1)) × (after ≡ before)
-ItemIs given (Err OutOfMemory) before after = after ≡ before
-ItemIs given (Err (IoError Device)) before after = before < after
-ItemIs given (Err e) before after = (given ≡ Err e) × (after ≡ before)
+ItemIs given (Err e) before after =
+    IsCause (after ≡ before) (before < after) e ((given ≡ Err e) × (after ≡ before))
 
 -- each item of a list in order
 abbrev pub ItemsAre : List (Result (Tag × PlainValue) TiffError)

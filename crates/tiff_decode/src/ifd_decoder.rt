@@ -4,6 +4,7 @@ ghost use Rattle.std.specs.Prelude.{◌≡◌, ◌<◌, ◌≤◌, ◌^◌, None
 ghost use Rattle.tiff_base.specs.declared.error.TiffError.TheVariants.{LimitsExceeded};
 ghost use Rattle.tiff_base.specs.Answers.{AnswersWithoutMemory, NoneSwallowed};
 ghost use Rattle.tiff_ifd.specs.Fitted.{fitted_numbers};
+ghost use Rattle.tiff_ifd.specs.TagQueries.{refused_buffer};
 ghost use Rattle.tiff_ifd.specs.View.{plain_value};
 ghost use Rattle.tiff_decode.specs.Asked.{AsksForTag};
 ghost use Rattle.tiff_decode.specs.Outcome as outcome;
@@ -16,7 +17,7 @@ use std::alloc::Global;
 use tiff_base::directory::{Directory, Entry};
 use tiff_base::error::{TiffError, TiffFormatError, TiffResult};
 use tiff_base::io::Source;
-use tiff_base::tags::{Bits32, Bits64, Tag};
+use tiff_base::tags::{Bits32, Bits64, ByteOrder, Tag};
 use tiff_ifd::field_reader::FieldReader;
 use tiff_ifd::value::Value;
 use tiff_value::buffer::ValueBuffer;
@@ -81,6 +82,22 @@ where
 fn all_fit(numbers: &[u64])
     ensures { (tag : _) → fitted_numbers tag (2 ^ 64) numbers.now ≡ Ok numbers.now }
 {}
+
+// Leaves in a buffer what the error of a field leaves there: no bytes of the field's type, or, where
+// a limit refused the field, what the buffer had.
+fn leave_refused(
+    alloc: Global,
+    order: ByteOrder,
+    entry: &Entry,
+    fault: &TiffError,
+    buf: &mut ValueBuffer,
+)
+    ensures { buf.new ≡ refused_buffer order entry.now buf.old fault.now }
+{
+    if !matches!(fault, TiffError::LimitsExceeded) {
+        *buf = ValueBuffer::from_parts(order, entry.field_type(), Vec::new(alloc));
+    }
+}
 
 impl<R: Source> Decoder<R> {
     /// The tags of the page's directory.
@@ -189,11 +206,10 @@ impl<R: Source> Decoder<R> {
         match fields.read_field_bytes(&mut tags.source, &entry) {
             Ok(bytes) => {
                 *buf = ValueBuffer::from_parts(tags.order, entry.field_type(), bytes);
-                return Ok(Some(entry));
+                Ok(Some(entry))
             }
-            Err(TiffError::LimitsExceeded) => return Err(TiffError::LimitsExceeded),
             Err(fault) => {
-                *buf = ValueBuffer::from_parts(tags.order, entry.field_type(), Vec::new(alloc));
+                leave_refused(alloc, tags.order, &entry, &fault, buf);
                 return Err(fault);
             }
         }

@@ -4,8 +4,8 @@ use Rattle.std.proofs.lemmas.Bool.{lt-ltb, le-ltb, ltb-true, ltb-false}
 use Rattle.std.proofs.Math.Nat.{le-min, min-eq_left}
 use Rattle.std.specs.Prelude.{◌&&◌, ◌-◌, ◌%◌, ◌/◌, ◌==◌, min, nat_lt, IsSome, not}
 use Rattle.tiff_base.specs.declared.error.TiffError.{TiffError}
-use Rattle.tiff_base.specs.declared.error.TiffError.TheVariants.{FormatError, UnsupportedError, IoError, LimitsExceeded, IntSizeError, UsageError, OutOfMemory}
-use Rattle.tiff_base.specs.declared.io.IoKind.TheVariants.{UnexpectedEof, InvalidData, InvalidInput, WriteZero, Device}
+use Rattle.tiff_base.specs.declared.error.TiffError.TheVariants.{IoError, IntSizeError, UsageError, OutOfMemory}
+use Rattle.tiff_base.specs.declared.io.IoKind.TheVariants.{Device}
 use Rattle.tiff_base.specs.Answers.{IsCause}
 use Rattle.tiff_base.specs.declared.error.UsageError.TheVariants.{WriterFailed, MismatchedEntryLength}
 use Rattle.tiff_base.specs.declared.io.SinkFault.{SinkFault}
@@ -136,16 +136,8 @@ pub wants : (given : Result FieldData TiffError) (e : TiffError) → IsWritable 
     → IsCause (IsWritable given) ⊥ e (given ≡ Err e) → e ≡ OutOfMemory
 wants (Err f) e w h = absurd w
 wants (Ok d) OutOfMemory w h = refl
-wants (Ok d) (IoError Device) w h = absurd h
-wants (Ok d) (IoError UnexpectedEof) w h = absurd cc
-wants (Ok d) (IoError InvalidData) w h = absurd cc
-wants (Ok d) (IoError InvalidInput) w h = absurd cc
-wants (Ok d) (IoError WriteZero) w h = absurd cc
-wants (Ok d) (FormatError x) w h = absurd cc
-wants (Ok d) (UnsupportedError x) w h = absurd cc
-wants (Ok d) LimitsExceeded w h = absurd cc
-wants (Ok d) IntSizeError w h = absurd cc
-wants (Ok d) (UsageError x) w h = absurd cc
+wants (Ok d) (IoError Device) w h = absurd (h.device refl)
+wants (Ok d) e w h = (let given = h.other refl in absurd cc)
 
 -- a value is too long for its entry if and only if its length, limited to 64 bits, is too long
 long_by : (long : Bool) (p n : ℕ) → nat_lt p n ≡ long → p ≤ 8

@@ -27,6 +27,7 @@ use Rattle.tiff_base.specs.Named.{NamesComeBack, NumbersComeBack}
 use Rattle.tiff_base.specs.lemmas.Common.{bind_ok}
 use Rattle.tiff_ifd.specs.declared.limits.Limits.{Limits}
 use Rattle.tiff_ifd.specs.Limits.{unlimited}
+use Rattle.tiff_ifd.specs.Chain.{Chain}
 use Rattle.tiff_ifd.specs.Fitted.{fitted_numbers}
 use Rattle.tiff_ifd.specs.Into.{into_u16, into_u64_vec}
 use Rattle.tiff_ifd.specs.TagLookup.{TagLookup, find, find_or, look_in, ok_or_fault}
@@ -162,6 +163,18 @@ module _ {B : Type 0} (g : List ℕ → FileKind → ByteOrder → DirectoryReco
       → (decoder_at_page file page >>= told) ≡ (page_directory file page >>= of_directory file)
   unfolding page_directory opened_of
   at_page file page = by_header file page (header_at file)
+
+-- The chain ends by an error before the page.
+pub unfound : (header : Header) (file : List ℕ) (page : ℕ) (offsets : List ℕ) (e : TiffError)
+    → page < 2 ^ 63 → slice_get (chain_from header file).offsets page ≡ None
+    → chain_from header file ≡ record { offsets = offsets; end = Some e }
+    → page_offset header file page ≡ Err e
+unfound header file page offsets e early absent ends =
+    ap (λ b. if b
+    then ok_or_fault (slice_get (chain_from header file).offsets page) (end_fault (chain_from header file).end)
+    else Ok (page - 2 ^ 63)) (lt-ltb page (2 ^ 63) early)
+    ∙ ap (λ o. ok_or_fault o (end_fault (chain_from header file).end)) absent
+    ∙ ap (λ (c : Chain). Err (end_fault c.end)) ends
 
 -- ---- the plan of a page
 

@@ -1,8 +1,7 @@
 -- A decoder whose reads never fail: its results are those of the file, unless memory is out.
 use Rattle.std.proofs.Common.{◌≡◌, ℕ, ◌<◌, true, Result, Ok, Err, ap, arith, OnOk}
 use Rattle.tiff_base.specs.declared.error.TiffError.{TiffError}
-use Rattle.tiff_base.specs.declared.error.TiffError.TheVariants.{FormatError, UnsupportedError, IoError, UsageError, LimitsExceeded, IntSizeError, OutOfMemory}
-use Rattle.tiff_base.specs.declared.io.IoKind.TheVariants.{UnexpectedEof, InvalidData, InvalidInput, WriteZero, Device}
+use Rattle.tiff_base.specs.lemmas.Causes.{cause_along, from_cause}
 use Rattle.tiff_base.specs.Answers.{Answers, AnswersBut, AnswersWithoutMemory, AnswersWithoutSource}
 use Rattle.tiff_decode.specs.Outcome.{next_image}
 use Rattle.tiff_decode.specs.Machine.{Decoding, Follows, FollowsBut, Outcome, Refused, source_of}
@@ -13,18 +12,8 @@ not_more m n a b h = omega (arith, a, b, h)
 refused : {X Y : Type 0} → (wanting : Type 0) (view : X → Y) → (o : Outcome Y) → (e : TiffError)
     → (old new : Decoding) → Refused wanting e o old new
     → old.failures ≡ 0 → new.failures ≡ 0 → AnswersWithoutSource view (Err e) o.answer
-refused wanting view o OutOfMemory old new r a b = tt
-refused wanting view o (IoError Device) old new r a b =
-    not_more old.failures new.failures a b r.grew
-refused wanting view o (IoError UnexpectedEof) old new r a b = r.answer
-refused wanting view o (IoError InvalidData) old new r a b = r.answer
-refused wanting view o (IoError InvalidInput) old new r a b = r.answer
-refused wanting view o (IoError WriteZero) old new r a b = r.answer
-refused wanting view o (FormatError x) old new r a b = r.answer
-refused wanting view o (UnsupportedError x) old new r a b = r.answer
-refused wanting view o (UsageError x) old new r a b = r.answer
-refused wanting view o LimitsExceeded old new r a b = r.answer
-refused wanting view o IntSizeError old new r a b = r.answer
+refused wanting view o e old new r a b =
+    cause_along e (λ w. tt) (λ f. not_more old.failures new.failures a b f.grew) (λ g. g.answer) r
 
 pub here : {X Y : Type 0} → (view : X → Y) → (o : Outcome Y) → (result : Result X TiffError)
     → (old new : Decoding) → Follows view o result old new
@@ -41,17 +30,8 @@ gone view o (Err e) old new f a b = tt
 -- The source of a decoder is the same after a call.
 source_refused : {Y : Type 0} → (wanting : Type 0) (o : Outcome Y) → (e : TiffError)
     → (old new : Decoding) → Refused wanting e o old new → source_of new ≡ source_of old
-source_refused wanting o OutOfMemory old new r = ap source_of r.1
-source_refused wanting o (IoError Device) old new r = ap source_of r.at.stands
-source_refused wanting o (IoError UnexpectedEof) old new r = ap source_of r.at
-source_refused wanting o (IoError InvalidData) old new r = ap source_of r.at
-source_refused wanting o (IoError InvalidInput) old new r = ap source_of r.at
-source_refused wanting o (IoError WriteZero) old new r = ap source_of r.at
-source_refused wanting o (FormatError x) old new r = ap source_of r.at
-source_refused wanting o (UnsupportedError x) old new r = ap source_of r.at
-source_refused wanting o (UsageError x) old new r = ap source_of r.at
-source_refused wanting o LimitsExceeded old new r = ap source_of r.at
-source_refused wanting o IntSizeError old new r = ap source_of r.at
+source_refused wanting o e old new r =
+    from_cause e (λ w. ap source_of w.1) (λ f. ap source_of f.at.stands) (λ g. ap source_of g.at) r
 
 pub source_stays : {X Y : Type 0} → (view : X → Y) → (o : Outcome Y) → (result : Result X TiffError)
     → (old new : Decoding) → Follows view o result old new → source_of new ≡ source_of old
@@ -77,17 +57,8 @@ next_gone (Err e) old new f a b = tt
 tag_refused : {X Y : Type 0} → (wanting : Type 0) (view : X → Y) → (given : Result Y TiffError)
     → (e : TiffError) → (m n : ℕ) → AnswersBut wanting (m < n) view (Err e) given
     → m ≡ 0 → n ≡ 0 → AnswersWithoutSource view (Err e) given
-tag_refused wanting view given OutOfMemory m n r a b = tt
-tag_refused wanting view given (IoError Device) m n r a b = not_more m n a b r
-tag_refused wanting view given (IoError UnexpectedEof) m n r a b = r
-tag_refused wanting view given (IoError InvalidData) m n r a b = r
-tag_refused wanting view given (IoError InvalidInput) m n r a b = r
-tag_refused wanting view given (IoError WriteZero) m n r a b = r
-tag_refused wanting view given (FormatError x) m n r a b = r
-tag_refused wanting view given (UnsupportedError x) m n r a b = r
-tag_refused wanting view given (UsageError x) m n r a b = r
-tag_refused wanting view given LimitsExceeded m n r a b = r
-tag_refused wanting view given IntSizeError m n r a b = r
+tag_refused wanting view given e m n r a b =
+    cause_along e (λ w. tt) (not_more m n a b) (λ g. g) r
 
 pub answer_here : {X Y : Type 0} → (view : X → Y) → (given : Result Y TiffError)
     → (result : Result X TiffError) → (m n : ℕ) → Answers view result given m n
@@ -99,17 +70,7 @@ answer_here view given (Err e) m n r a b = tag_refused (Unit {0}) view given e m
 exact : {X Y : Type 0} → (view : X → Y) → (given : Result Y TiffError) → (e : TiffError) → (m n : ℕ)
     → AnswersWithoutMemory view (Err e) given m n
     → m ≡ 0 → n ≡ 0 → AnswersWithoutSource view (Err e) given
-exact view given OutOfMemory m n r a b = tt
-exact view given (IoError Device) m n r a b = not_more m n a b r
-exact view given (IoError UnexpectedEof) m n r a b = r
-exact view given (IoError InvalidData) m n r a b = r
-exact view given (IoError InvalidInput) m n r a b = r
-exact view given (IoError WriteZero) m n r a b = r
-exact view given (FormatError x) m n r a b = r
-exact view given (UnsupportedError x) m n r a b = r
-exact view given (UsageError x) m n r a b = r
-exact view given LimitsExceeded m n r a b = r
-exact view given IntSizeError m n r a b = r
+exact view given e m n r a b = cause_along e (λ w. tt) (not_more m n a b) (λ g. g) r
 
 pub exactly_here : {X Y : Type 0} → (view : X → Y) → (given : Result Y TiffError)
     → (result : Result X TiffError) → (m n : ℕ) → AnswersWithoutMemory view result given m n

@@ -1,8 +1,8 @@
 -- A status is the number of a result.
-use Rattle.std.proofs.Common.{◌≡◌, ◌⊎◌, ℕ, Result, Ok, Err, IfOk, OnErr, inl, inr, subst, sym, ap}
+use Rattle.std.proofs.Common.{◌≡◌, ◌⊎◌, ℕ, Result, Ok, Err, IfOk, OnErr, inl, inr, refl, subst, sym, ap}
 use Rattle.tiff_base.specs.declared.error.TiffError.{TiffError}
-use Rattle.tiff_base.specs.declared.error.TiffError.TheVariants.{FormatError, UnsupportedError, IoError, UsageError, LimitsExceeded, IntSizeError, OutOfMemory}
-use Rattle.tiff_base.specs.declared.io.IoKind.TheVariants.{UnexpectedEof, InvalidData, InvalidInput, WriteZero, Device}
+use Rattle.tiff_base.specs.declared.error.TiffError.TheVariants.{IoError, OutOfMemory}
+use Rattle.tiff_base.specs.declared.io.IoKind.TheVariants.{Device}
 use Rattle.tiff_base.specs.Answers.{AnswersWithoutSource}
 use Rattle.tiff_ffi.specs.Status.{fault_number, status, StatusPuts, StatusTells}
 
@@ -19,16 +19,8 @@ refused : {X Y : Type 0} → (view : X → Y) → (f : TiffError) → (given : R
     → (left : Y) → AnswersWithoutSource view (Err f) given
     → n ≡ fault_number f → StatusTells given n left
 refused view OutOfMemory given n left h e = wanting given n left e
-refused view (IoError Device) given n left h e = absurd h
-refused view (IoError UnexpectedEof) given n left h e = fault given n left _ h e
-refused view (IoError InvalidData) given n left h e = fault given n left _ h e
-refused view (IoError InvalidInput) given n left h e = fault given n left _ h e
-refused view (IoError WriteZero) given n left h e = fault given n left _ h e
-refused view (FormatError x) given n left h e = fault given n left _ h e
-refused view (UnsupportedError x) given n left h e = fault given n left _ h e
-refused view (UsageError x) given n left h e = fault given n left _ h e
-refused view LimitsExceeded given n left h e = fault given n left _ h e
-refused view IntSizeError given n left h e = fault given n left _ h e
+refused view (IoError Device) given n left h e = absurd (h.device refl)
+refused view f given n left h e = fault given n left f (h.other refl) e
 
 -- What a call leaves in a variable of the caller's.
 pub tells_left : {X Y : Type 0} → (view : X → Y) → (answer : Result X TiffError)
@@ -63,16 +55,8 @@ unput : {X Y : Type 0} → (view : X → Y) → (f : TiffError) → (given : Res
     → (old new : Y) → AnswersWithoutSource view (Err f) given
     → n ≡ fault_number f → new ≡ old → StatusPuts given n old new
 unput view OutOfMemory given n old new h e k = none given n old new e k
-unput view (IoError Device) given n old new h e k = absurd h
-unput view (IoError UnexpectedEof) given n old new h e k = named given n old new _ h e k
-unput view (IoError InvalidData) given n old new h e k = named given n old new _ h e k
-unput view (IoError InvalidInput) given n old new h e k = named given n old new _ h e k
-unput view (IoError WriteZero) given n old new h e k = named given n old new _ h e k
-unput view (FormatError x) given n old new h e k = named given n old new _ h e k
-unput view (UnsupportedError x) given n old new h e k = named given n old new _ h e k
-unput view (UsageError x) given n old new h e k = named given n old new _ h e k
-unput view LimitsExceeded given n old new h e k = named given n old new _ h e k
-unput view IntSizeError given n old new h e k = named given n old new _ h e k
+unput view (IoError Device) given n old new h e k = absurd (h.device refl)
+unput view f given n old new h e k = named given n old new f (h.other refl) e k
 
 -- What a call puts into a variable of the caller's.
 pub puts_told : {X Y : Type 0} → (view : X → Y) → (answer : Result X TiffError)

@@ -2,11 +2,11 @@
 use Rattle.std.proofs.Common.{◌≡◌, ℕ, ◌+◌, ◌^◌, ◌<◌, ◌≤◌, List, [], ◌∷◌, ◌++◌, length, reverse, Option, None, Some, Bool, true, false, Result, Ok, Err, refl, ap, sym, ◌∙◌, subst, arith}
 use Rattle.std.specs.List.{slice_get}
 use Rattle.std.proofs.lemmas.Option.{slice_get_past}
-use Rattle.tiff_base.specs.lemmas.Causes.{cause_along}
+use Rattle.tiff_base.specs.lemmas.Causes.{cause_along, from_cause}
 use Rattle.tiff_base.specs.Answers.{IsCause, IsNotDevice, ◌>>=◌}
 use Rattle.tiff_base.specs.declared.error.TiffError.{TiffError}
-use Rattle.tiff_base.specs.declared.error.TiffError.TheVariants.{FormatError, UnsupportedError, IoError, LimitsExceeded, IntSizeError, UsageError, OutOfMemory}
-use Rattle.tiff_base.specs.declared.io.IoKind.TheVariants.{UnexpectedEof, InvalidData, InvalidInput, WriteZero, Device}
+use Rattle.tiff_base.specs.declared.error.TiffError.TheVariants.{IoError}
+use Rattle.tiff_base.specs.declared.io.IoKind.TheVariants.{UnexpectedEof}
 use Rattle.tiff_base.specs.declared.tags.ByteOrder.{ByteOrder}
 use Rattle.tiff_base.specs.declared.tags.FileKind.{FileKind}
 use Rattle.tiff_base.specs.Directory.{directory_at, link_offset, count_width, offset_width}
@@ -200,17 +200,7 @@ pub refused_same : (kind : FileKind) (order : ByteOrder) (bytes : List ℕ) (fai
     (before after : Walked) (e : TiffError)
     → IsCause (after ≡ before) (failed × (after
     ≡ before)) e (WalkSteps kind order bytes before (Err e) after) → after ≡ before
-refused_same kind order bytes failed before after OutOfMemory h = h
-refused_same kind order bytes failed before after (IoError Device) h = h.1
-refused_same kind order bytes failed before after (IoError UnexpectedEof) h = h.1
-refused_same kind order bytes failed before after (IoError InvalidData) h = h.1
-refused_same kind order bytes failed before after (IoError InvalidInput) h = h.1
-refused_same kind order bytes failed before after (IoError WriteZero) h = h.1
-refused_same kind order bytes failed before after (FormatError x) h = h.1
-refused_same kind order bytes failed before after (UnsupportedError x) h = h.1
-refused_same kind order bytes failed before after LimitsExceeded h = h.1
-refused_same kind order bytes failed before after IntSizeError h = h.1
-refused_same kind order bytes failed before after (UsageError x) h = h.1
+refused_same kind order bytes failed before after e h = from_cause e (λ s. s) (λ d. d.1) (λ r. r.1) h
 
 -- an error on the way is the end of the chain
 pub way_cut : {failed failed' : Type 0} (kind : FileKind) (order : ByteOrder) (bytes seen : List ℕ)

@@ -263,7 +263,6 @@ impl PageReader<'_> {
     }
 
     // Returns the numbers of an image or a chunk whose samples have a number type of `N` bytes.
-    #[tactic(auto, using(crate::specs::lemmas::Requests::portion_early))]
     fn read_as<R: Source, T: Number<N>, const N: usize>(
         &self,
         source: &mut R,

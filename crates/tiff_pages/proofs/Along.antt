@@ -4,10 +4,10 @@ use Rattle.std.proofs.lemmas.Option.{slice_get_within}
 use Rattle.std.specs.Prelude.{is_some, unwrap_or}
 use Rattle.std.specs.List.{slice_get}
 use Rattle.tiff_base.specs.declared.error.TiffError.{TiffError}
-use Rattle.tiff_base.specs.declared.error.TiffError.TheVariants.{FormatError, UnsupportedError, IoError, LimitsExceeded, IntSizeError, UsageError, OutOfMemory}
-use Rattle.tiff_base.specs.declared.io.IoKind.TheVariants.{UnexpectedEof, InvalidData, InvalidInput, WriteZero, Device}
+use Rattle.tiff_base.specs.declared.error.TiffError.TheVariants.{IoError, OutOfMemory}
+use Rattle.tiff_base.specs.declared.io.IoKind.TheVariants.{Device}
 use Rattle.tiff_base.specs.declared.tags.IfdPointer.{IfdPointer}
-use Rattle.tiff_base.specs.Answers.{◌>>=◌}
+use Rattle.tiff_base.specs.Answers.{◌>>=◌, IsCause}
 use Rattle.tiff_base.specs.Field.{DirectoryRecord}
 use Rattle.tiff_page.specs.Page.{PageRecord}
 use Rattle.tiff_decode.specs.Machine.{State, Decoding, Outcome, FollowsBut, Follows, GivesOutcome, keeps_state}
@@ -32,33 +32,15 @@ pub record ListsAlong (start d : Decoding) (items : List PageItem) : Type 0 wher
 pub of_file : (wanting : Type 0) (o : Outcome (Unit {0})) (r : Answer) (old new : Decoding)
     → IsOfFile r → FollowsBut wanting (λ x. x) o r old new → GivesOutcome r o old new
 of_file wanting o (Ok u) old new k h = h
-of_file wanting o (Err OutOfMemory) old new k h = absurd (cc)
-of_file wanting o (Err (IoError Device)) old new k h = absurd (cc)
-of_file wanting o (Err (IoError UnexpectedEof)) old new k h = h
-of_file wanting o (Err (IoError InvalidData)) old new k h = h
-of_file wanting o (Err (IoError InvalidInput)) old new k h = h
-of_file wanting o (Err (IoError WriteZero)) old new k h = h
-of_file wanting o (Err (FormatError x)) old new k h = h
-of_file wanting o (Err (UnsupportedError x)) old new k h = h
-of_file wanting o (Err LimitsExceeded) old new k h = h
-of_file wanting o (Err IntSizeError) old new k h = h
-of_file wanting o (Err (UsageError x)) old new k h = h
+of_file wanting o (Err e) old new k h = h.other k
 
 -- Any other result leaves the decoder where it was.
 kept_by : (wanting : Type 0) (o : Outcome (Unit {0})) (e : TiffError) (old new : Decoding)
     → keeps_state e ≡ true → FollowsBut {X = Unit {0}} wanting (λ x. x) o (Err e) old new
     → new.state ≡ old.state
-kept_by wanting o OutOfMemory old new k h = ap (λ (d : Decoding). d.state) h.1
-kept_by wanting o (IoError Device) old new k h = ap (λ (d : Decoding). d.state) h.at.stands
-kept_by wanting o (IoError UnexpectedEof) old new k h = absurd (cc)
-kept_by wanting o (IoError InvalidData) old new k h = absurd (cc)
-kept_by wanting o (IoError InvalidInput) old new k h = absurd (cc)
-kept_by wanting o (IoError WriteZero) old new k h = absurd (cc)
-kept_by wanting o (FormatError x) old new k h = absurd (cc)
-kept_by wanting o (UnsupportedError x) old new k h = absurd (cc)
-kept_by wanting o LimitsExceeded old new k h = absurd (cc)
-kept_by wanting o IntSizeError old new k h = absurd (cc)
-kept_by wanting o (UsageError x) old new k h = absurd (cc)
+kept_by wanting o OutOfMemory old new k h = ap (λ (d : Decoding). d.state) (h.memory refl).1
+kept_by wanting o (IoError Device) old new k h = ap (λ (d : Decoding). d.state) (h.device refl).at.stands
+kept_by wanting o e old new k h = absurd (cc)
 
 pub kept_state : (wanting : Type 0) (o : Outcome (Unit {0})) (r : Answer) (e : TiffError)
     (old new : Decoding) → (r ≡ Err e) × (keeps_state e ≡ true)
@@ -66,6 +48,20 @@ pub kept_state : (wanting : Type 0) (o : Outcome (Unit {0})) (r : Answer) (e : T
 kept_state wanting o r e old new k h =
     let P : Answer → Type 0 = λ x. FollowsBut wanting (λ y. y) o x old new in
     kept_by wanting o e old new k.1 (subst P k.0 h)
+
+-- Its cause is then that memory is out or that a read failed.
+pub kept_cause : (wanting : Type 0) (o : Outcome (Unit {0})) (r : Answer) (e : TiffError)
+    (old new : Decoding) → (r ≡ Err e) × (keeps_state e ≡ true)
+    → FollowsBut wanting (λ x. x) o r old new
+    → IsCause (Unit {0}) (old.failures < new.failures) e ⊥
+kept_cause wanting o r e old new k h =
+    let P : Answer → Type 0 = λ x. FollowsBut wanting (λ y. y) o x old new in
+    let c = subst P k.0 h in
+    record {
+      memory = λ is. tt;
+      device = λ is. (c.device is).grew;
+      other = λ isnt. absurd (let a = k.1 in cc);
+    }
 
 -- ---- where the decoder is
 

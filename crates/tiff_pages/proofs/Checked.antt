@@ -5,8 +5,6 @@ use Rattle.std.proofs.Math.Seq.{take-length}
 use Rattle.std.specs.Prelude.{unwrap_or}
 use Rattle.std.specs.List.{slice_get}
 use Rattle.tiff_base.specs.declared.error.TiffError.{TiffError}
-use Rattle.tiff_base.specs.declared.error.TiffError.TheVariants.{FormatError, UnsupportedError, IoError, LimitsExceeded, IntSizeError, UsageError, OutOfMemory}
-use Rattle.tiff_base.specs.declared.io.IoKind.TheVariants.{UnexpectedEof, InvalidData, InvalidInput, WriteZero, Device}
 use Rattle.tiff_base.specs.declared.tags.IfdPointer.{IfdPointer}
 use Rattle.tiff_base.specs.Answers.{◌>>=◌, Answers}
 use Rattle.tiff_base.specs.Directory.{directory_at}
@@ -30,17 +28,7 @@ Answer = Result (Unit {0}) TiffError
 of_file : (o : Outcome (Unit {0})) (r : Answer) (old new : Decoding) → IsOfFile r
     → Follows (λ x. x) o r old new → GivesOutcome r o old new
 of_file o (Ok u) old new k h = h
-of_file o (Err OutOfMemory) old new k h = absurd (cc)
-of_file o (Err (IoError Device)) old new k h = absurd (cc)
-of_file o (Err (IoError UnexpectedEof)) old new k h = h
-of_file o (Err (IoError InvalidData)) old new k h = h
-of_file o (Err (IoError InvalidInput)) old new k h = h
-of_file o (Err (IoError WriteZero)) old new k h = h
-of_file o (Err (FormatError x)) old new k h = h
-of_file o (Err (UnsupportedError x)) old new k h = h
-of_file o (Err LimitsExceeded) old new k h = h
-of_file o (Err IntSizeError) old new k h = h
-of_file o (Err (UsageError x)) old new k h = h
+of_file o (Err e) old new k h = h.other k
 
 -- The decoder is at the page with this number.
 pub came_to : WalkSeeks → (d new : Decoding) (number : ℕ) (answer entered : Answer)
@@ -92,17 +80,7 @@ check_made d new number answer place image a pointer is =
 given_is : {X : Type 0} (r given : Result X TiffError) (m n : ℕ) → IsOfFile r
     → Answers (λ x. x) r given m n → given ≡ r
 given_is (Ok x) given m n k h = h
-given_is (Err OutOfMemory) given m n k h = absurd (cc)
-given_is (Err (IoError Device)) given m n k h = absurd (cc)
-given_is (Err (IoError UnexpectedEof)) given m n k h = h
-given_is (Err (IoError InvalidData)) given m n k h = h
-given_is (Err (IoError InvalidInput)) given m n k h = h
-given_is (Err (IoError WriteZero)) given m n k h = h
-given_is (Err (FormatError x)) given m n k h = h
-given_is (Err (UnsupportedError x)) given m n k h = h
-given_is (Err LimitsExceeded) given m n k h = h
-given_is (Err IntSizeError) given m n k h = h
-given_is (Err (UsageError x)) given m n k h = h
+given_is (Err e) given m n k h = h.other k
 
 -- The image of a page was read.
 pub image_told : (new mid last : Decoding) (u : Unit {0}) (entered : Answer)

@@ -1,8 +1,8 @@
 -- What is read at an offset: the page of a directory, the directory, and the values of a tag.
 use Rattle.std.proofs.Common.{◌≡◌, ℕ, ◌<◌, List, Some, true, Result, Ok, Err, IfOk, MatchResult, refl, ap, sym, ◌∙◌, subst, arith}
 use Rattle.tiff_base.specs.declared.error.TiffError.{TiffError}
-use Rattle.tiff_base.specs.declared.error.TiffError.TheVariants.{FormatError, UnsupportedError, IoError, LimitsExceeded, IntSizeError, UsageError, OutOfMemory}
-use Rattle.tiff_base.specs.declared.io.IoKind.TheVariants.{UnexpectedEof, InvalidData, InvalidInput, WriteZero, Device}
+use Rattle.tiff_base.specs.declared.error.TiffError.TheVariants.{IoError, OutOfMemory}
+use Rattle.tiff_base.specs.declared.io.IoKind.TheVariants.{Device}
 use Rattle.tiff_base.specs.declared.tags.IfdPointer.{IfdPointer}
 use Rattle.tiff_base.specs.declared.tags.Tag.{Tag}
 use Rattle.tiff_base.specs.Answers.{◌>>=◌, AnswersBut}
@@ -29,17 +29,7 @@ the_answer e = Err e
 from_file : {X : Type 0} (o : Outcome X) (r : Result X TiffError) (old new : Decoding) → IsOfFile r
     → Follows (λ x. x) o r old new → GivesOutcome r o old new
 from_file o (Ok u) old new k h = h
-from_file o (Err OutOfMemory) old new k h = absurd (cc)
-from_file o (Err (IoError Device)) old new k h = absurd (cc)
-from_file o (Err (IoError UnexpectedEof)) old new k h = h
-from_file o (Err (IoError InvalidData)) old new k h = h
-from_file o (Err (IoError InvalidInput)) old new k h = h
-from_file o (Err (IoError WriteZero)) old new k h = h
-from_file o (Err (FormatError x)) old new k h = h
-from_file o (Err (UnsupportedError x)) old new k h = h
-from_file o (Err LimitsExceeded) old new k h = h
-from_file o (Err IntSizeError) old new k h = h
-from_file o (Err (UsageError x)) old new k h = h
+from_file o (Err e) old new k h = h.other k
 
 -- Only the count of failed reads grew.
 pub only_count : (old new : Decoding) → new ≡ record old { failures = new.failures }
@@ -50,26 +40,29 @@ only_count old new h =
 device : {X : Type 0} (old new : Decoding) → new ≡ record old { failures = new.failures }
     → old.failures < new.failures → Shows {X = X} (Err (IoError Device)) old new
 device old new h g =
-    record { shows = only_count old new h; failures = omega (arith, g); stays = tt; refused = g }
+    record {
+      shows = only_count old new h;
+      failures = omega (arith, g);
+      stays = tt;
+      refused = record { memory = λ is. absurd (cc); device = λ is. g; other = λ is. absurd (cc) };
+    }
 
 same_then : {X : Type 0} (old new : Decoding) → new ≡ old → Shows {X = X} (Err OutOfMemory) old new
 same_then {X = X} old new h =
     let P : Decoding → Type 0 = λ d. Shows {X = X} (Err OutOfMemory) old d in
-    subst P (sym h) (record { shows = refl; failures = omega (arith); stays = tt; refused = tt })
+    subst P (sym h) (record {
+      shows = refl;
+      failures = omega (arith);
+      stays = tt;
+      refused = record { memory = λ is. tt; device = λ is. absurd (cc); other = λ is. absurd (cc) };
+    })
 
 kept_by : {X Y : Type 0} (o : Outcome X) (e : TiffError) (old new : Decoding) → keeps_state e ≡ true
     → Follows {X = X} (λ x. x) o (Err e) old new → Shows {X = Y} (Err e) old new
-kept_by o OutOfMemory old new k h = same_then old new h.1
-kept_by o (IoError Device) old new k h = device old new h.at.stands h.grew
-kept_by o (IoError UnexpectedEof) old new k h = absurd (cc)
-kept_by o (IoError InvalidData) old new k h = absurd (cc)
-kept_by o (IoError InvalidInput) old new k h = absurd (cc)
-kept_by o (IoError WriteZero) old new k h = absurd (cc)
-kept_by o (FormatError x) old new k h = absurd (cc)
-kept_by o (UnsupportedError x) old new k h = absurd (cc)
-kept_by o LimitsExceeded old new k h = absurd (cc)
-kept_by o IntSizeError old new k h = absurd (cc)
-kept_by o (UsageError x) old new k h = absurd (cc)
+kept_by o OutOfMemory old new k h = same_then old new (h.memory refl).1
+kept_by o (IoError Device) old new k h =
+    let f = h.device refl in device old new f.at.stands f.grew
+kept_by o e old new k h = absurd (cc)
 
 -- A call that ran out of memory, or failed by the device, shows nothing.
 pub shows_refused : {X Y : Type 0} (o : Outcome X) (r : Result X TiffError) (e : TiffError)
@@ -239,17 +232,7 @@ given_of : {V Y : Type 0} (wanting failed : Type 0) (view : V → Y) (r : Result
     (given : Result Y TiffError) → IsOfFile r → AnswersBut wanting failed view r given
     → MatchResult r (λ v. given ≡ Ok (view v)) (λ e. given ≡ Err e)
 given_of wanting failed view (Ok v) given k h = h
-given_of wanting failed view (Err OutOfMemory) given k h = absurd (cc)
-given_of wanting failed view (Err (IoError Device)) given k h = absurd (cc)
-given_of wanting failed view (Err (IoError UnexpectedEof)) given k h = h
-given_of wanting failed view (Err (IoError InvalidData)) given k h = h
-given_of wanting failed view (Err (IoError InvalidInput)) given k h = h
-given_of wanting failed view (Err (IoError WriteZero)) given k h = h
-given_of wanting failed view (Err (FormatError x)) given k h = h
-given_of wanting failed view (Err (UnsupportedError x)) given k h = h
-given_of wanting failed view (Err LimitsExceeded) given k h = h
-given_of wanting failed view (Err IntSizeError) given k h = h
-given_of wanting failed view (Err (UsageError x)) given k h = h
+given_of wanting failed view (Err e) given k h = h.other k
 
 abbrev pub AreValues : {V : Type 0} → (V → List ℕ) → Result (List ℕ) TiffError → Result V TiffError
     → Type 0

@@ -3,18 +3,19 @@ use Rattle.std.proofs.Common.{◌≡◌, ℕ, zero, suc, ◌-◌, ◌<◌, List,
 use Rattle.std.proofs.lemmas.List.{length-map, map-append}
 use Rattle.std.specs.List.{slice_get}
 use Rattle.tiff_base.specs.declared.error.TiffError.{TiffError}
-use Rattle.tiff_base.specs.declared.error.TiffError.TheVariants.{FormatError, UnsupportedError, IoError, LimitsExceeded, IntSizeError, UsageError, OutOfMemory}
-use Rattle.tiff_base.specs.declared.io.IoKind.TheVariants.{UnexpectedEof, InvalidData, InvalidInput, WriteZero, Device}
 use Rattle.tiff_base.specs.Answers.{◌>>=◌, IsCause}
 use Rattle.tiff.specs.lemmas.Causes.{cause_along}
 use Rattle.tiff_base.specs.Directory.{directory_at}
 use Rattle.tiff_base.specs.Field.{DirectoryRecord}
 use Rattle.tiff_page.specs.Page.{PageRecord}
+use Rattle.tiff_page.specs.Image.{Decoded}
+use Rattle.tiff_ifd.specs.Limits.{unlimited}
 use Rattle.tiff_decode.specs.Machine.{Decoding, FollowsWithoutEither, GivesOutcome, Outcome, Refused}
-use Rattle.tiff_decode.specs.Outcome.{decoder_of, chain_of, dimensions, next_image, page_in}
+use Rattle.tiff_decode.specs.Outcome.{decoder_of, chain_of, dimensions, next_image, page_in, seek_to_image, set_limits}
 use Rattle.tiff_laws.specs.Pages.{IsAlong, PageAnswers, GoesOn, ListedAlong, WalkOpens, WalkGoesOn, WalkEnds, page_at}
 use Rattle.tiff_laws.specs.lemmas.Listed.{listed_first, listed_next, listed_fewer, listed_all}
-use Rattle.tiff_uses.specs.Pages.{FileAnswers, each_sides, page_sides, sides_at, told_at}
+use Rattle.tiff_uses.specs.ReadBack.{first_freely}
+use Rattle.tiff_uses.specs.Pages.{FileAnswers, each_sides, page_chunk, page_sides, sides_at, told_at}
 
 abbrev ok : ℕ × ℕ → Result (ℕ × ℕ) TiffError
 ok s = Ok s
@@ -26,6 +27,34 @@ begun d = record d { readable = None; failures = 0 }
 -- the sides of the pages from the first one up to that of a decoder
 abbrev pub Standing : Decoding → List (ℕ × ℕ) → Decoding → Type 0
 Standing start sides d = ListedAlong (sides_at start) start d (map ok sides)
+
+-- ---- a page that is sought
+
+-- A decoder as it was opened from a file.
+module _ (file : List ℕ) (d : Decoding) (opened : decoder_of file 0 ≡ Ok (begun d))
+    (readable : d.readable ≡ None) (failures : d.failures ≡ 0) where
+  opens : decoder_of file 0 ≡ Ok d
+  opens =
+      opened
+      ∙ ap (λ r. Ok (record d { readable = r; failures = 0 })) (sym readable)
+      ∙ ap (λ n. Ok (record d { failures = n })) (sym failures)
+
+  -- A page isn't found.
+  pub unsought : (wanting : Type 0) (page chunk : ℕ) (new : Decoding) (e : TiffError)
+      → Refused wanting e (seek_to_image d page) d new
+      → FileAnswers {X = Decoded} (λ x. x) (Err e) (page_chunk file page chunk)
+  unsought wanting page chunk new e =
+      let o = opens in
+      cause_along e (λ w. tt) (λ f. tt) (λ g. let a = g.answer in cc)
+
+  -- Without limits the first page isn't found.
+  pub unsought_freely : (wanting : Type 0) (free new : Decoding) (e : TiffError)
+      → free ≡ record d { state = (set_limits d unlimited).next }
+      → Refused wanting e (seek_to_image free 0) free new
+      → FileAnswers {X = Decoded} (λ x. x) (Err e) (first_freely file)
+  unsought_freely wanting free new e is =
+      let o = opens in
+      cause_along e (λ w. tt) (λ f. tt) (λ g. let a = g.answer in cc)
 
 -- ---- the sides of a page
 
@@ -196,17 +225,7 @@ refused goes_on file start old sides e h l more a =
 by_fault : {Y given : Type 0} (wanting : Type 0) (o : Outcome Y) (old new : Decoding)
     (e : TiffError) → (o.answer ≡ Err e → given) → Refused wanting e o old new
     → IsCause (Unit {0}) (Unit {0}) e given
-by_fault wanting o old new OutOfMemory f h = tt
-by_fault wanting o old new (IoError Device) f h = tt
-by_fault wanting o old new (IoError UnexpectedEof) f h = f h.answer
-by_fault wanting o old new (IoError InvalidData) f h = f h.answer
-by_fault wanting o old new (IoError InvalidInput) f h = f h.answer
-by_fault wanting o old new (IoError WriteZero) f h = f h.answer
-by_fault wanting o old new (FormatError x) f h = f h.answer
-by_fault wanting o old new (UnsupportedError x) f h = f h.answer
-by_fault wanting o old new LimitsExceeded f h = f h.answer
-by_fault wanting o old new IntSizeError f h = f h.answer
-by_fault wanting o old new (UsageError x) f h = f h.answer
+by_fault wanting o old new e f h = cause_along e (λ w. tt) (λ d. tt) (λ g. f g.answer) h
 
 -- An error of going on is the error of the whole.
 pub refused_next : WalkGoesOn

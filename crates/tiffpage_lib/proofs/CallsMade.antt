@@ -8,6 +8,7 @@ use Rattle.tiff_decode.specs.declared.script.Call.{Call}
 use Rattle.tiff_decode.specs.Outcome.{decoder_of}
 use Rattle.tiff_script.specs.Told.{LinesOfCalls}
 use Rattle.tiffpage_lib.specs.Commands.{RepliesTo}
+use Rattle.tiffpage_lib.specs.lemmas.Memory.{memory_out}
 use Rattle.tiff_decode.specs.declared.script.Reply.{Reply}
 use Rattle.tiff_decode.specs.Machine.{Decoding}
 use Rattle.tiff_decode.specs.Steps.{Steps, Ran}
@@ -34,4 +35,5 @@ pub replies_made : (file : List ℕ) (calls : List Call) (d last : Decoding)
     → decoder_of file 0 ≡ Ok (record d { readable = None; failures = 0 })
     → LinesOfCalls d calls r last → RepliesTo file calls (result_map_both string_bytes (λ e. e) r)
 replies_made file calls d last (Ok text) e h = (d, last, h.0, e, h.1)
-replies_made file calls d last (Err fault) e h = rw h.0 tt
+replies_made file calls d last (Err fault) e h =
+    rw h.0 memory_out

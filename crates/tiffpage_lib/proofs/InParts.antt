@@ -26,6 +26,7 @@ use Rattle.tiff_decode.specs.Outcome.{chain_of}
 use Rattle.tiff_pages.specs.OfFile.{check_of, list_of, tree_of, under}
 use Rattle.tiff_pages.specs.Pages.{Pages, item_at, pages_of}
 use Rattle.tiff_pages.specs.Tree.{directories_in}
+use Rattle.tiffpage_lib.specs.lemmas.Memory.{memory_out}
 use Rattle.tiffpage_lib.specs.declared.failure.Failure.{Failure}
 use Rattle.tiffpage_lib.specs.declared.failure.Failure.TheVariants as failure
 use Rattle.tiffpage_lib.specs.Check.{checks_under, told_under}
@@ -176,7 +177,7 @@ checks_told limits file checked lines h t =
 pub out_told : {X Y : Type 0} (view : X → Y) (given : Result Y TiffError) (e : TiffError)
     → e ≡ OutOfMemory → AnswersWithoutSource view (Err e) given
 out_told view given e h =
-    (let P : TiffError → Type 0 = λ x. AnswersWithoutSource view (Err x) given in subst P (sym h) tt)
+    (let P : TiffError → Type 0 = λ x. AnswersWithoutSource view (Err x) given in subst P (sym h) memory_out)
 
 -- ---- checks, page by page
 

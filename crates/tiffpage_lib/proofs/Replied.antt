@@ -1,6 +1,5 @@
 -- The call that a reply belongs to.
 use Rattle.std.proofs.Common.{[], ◌∷◌}
-use Rattle.tiff_base.specs.declared.tags.IfdPointer.{IfdPointer}
 use Rattle.tiff_base.specs.declared.tags.Tag.{Tag}
 use Rattle.tiff_decode.specs.declared.script.Call.{Call}
 use Rattle.tiff_decode.specs.declared.script.Call.TheVariants as call

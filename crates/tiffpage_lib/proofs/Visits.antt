@@ -32,17 +32,12 @@ use Rattle.tiffpage_lib.specs.Samples.{page_image}
 pub fault_cause : {G : Type 0} (e : TiffError) (before after : ℕ) → (IsNamedFault (Some e) → G)
     → before + device_count (Some e) ≤ after
     → IsCause (Unit {0}) (before < after) e G
-fault_cause (FormatError e) before after g l = g tt
-fault_cause (UnsupportedError e) before after g l = g tt
-fault_cause (IoError UnexpectedEof) before after g l = g tt
-fault_cause (IoError InvalidData) before after g l = g tt
-fault_cause (IoError InvalidInput) before after g l = g tt
-fault_cause (IoError WriteZero) before after g l = g tt
-fault_cause (IoError Device) before after g l = omega (arith, l)
-fault_cause LimitsExceeded before after g l = g tt
-fault_cause IntSizeError before after g l = g tt
-fault_cause (UsageError e) before after g l = g tt
-fault_cause OutOfMemory before after g l = tt
+fault_cause OutOfMemory before after g l =
+    record { memory = λ is. tt; device = λ is. absurd (cc); other = λ is. absurd (cc) }
+fault_cause (IoError Device) before after g l =
+    record { memory = λ is. absurd (cc); device = λ is. omega (arith, l); other = λ is. absurd (cc) }
+fault_cause e before after g l =
+    record { memory = λ is. absurd (cc); device = λ is. absurd (cc); other = λ is. g tt }
 
 -- An error is named or it isn't.
 named_or_not : (f : Option TiffError) → IsNamedFault f ⊎ (IsNamedFault f → ⊥)

@@ -13,3 +13,4 @@ pub mod Words
 pub mod Wrote
 pub mod Status
 pub mod Parts
+pub mod lemmas

@@ -8,6 +8,7 @@ ghost use Rattle.tiff_pages.specs.Tree.{directories_in};
 ghost use Rattle.tiffpage_lib.specs.Check.{checks_under, told_under};
 ghost use Rattle.tiffpage_lib.specs.Directories.{told_of_directories};
 ghost use Rattle.tiffpage_lib.specs.Parts.{SeesBy};
+ghost use Rattle.tiffpage_lib.specs.lemmas.Memory.{memory_out};
 
 use crate::failure::Failure;
 use crate::files::Files;
@@ -45,7 +46,7 @@ impl Question for WhichDirectories {
         true
     }
 
-    ghost memory = { λ question file. tt };
+    ghost memory = { λ question file. memory_out };
 }
 
 // Which pages a file has.
@@ -69,7 +70,7 @@ impl Question for WhichPages {
         true
     }
 
-    ghost memory = { λ question file. tt };
+    ghost memory = { λ question file. memory_out };
 }
 
 // What the image of the page at an offset comes to, under limits.
@@ -97,7 +98,7 @@ impl Question for WhichImage<'_> {
         false
     }
 
-    ghost memory = { λ question file. tt };
+    ghost memory = { λ question file. memory_out };
 }
 
 /// The directories of a file of `len` bytes, one line for each, as `file_directories` returns them.

@@ -330,18 +330,18 @@ seeks_back_cut = λ r.
 pub tag_readable : s.tag_readable
 unfolding tiff_on_literals
 tag_readable = λ h.
-    h (tag_held (s.gray_source ((8, 8) ∷ [])) (reverse gray_entries) None tag.XResolution (record { placed = λ w k l m. in_first 8 8 [] k l m }))
+    false≢true (sym (h (tag_held (s.gray_source ((8, 8) ∷ [])) (reverse gray_entries) None tag.XResolution (record { placed = λ w k l m. in_first 8 8 [] k l m }))))
 
 pub tag_unreadable : s.tag_unreadable
 unfolding tiff_on_literals
-tag_unreadable =
-    tag_unheld (s.gray_source ((8, 7) ∷ [])) (reverse gray_entries) None tag.XResolution
+tag_unreadable = λ r.
+    absurd (tag_unheld (s.gray_source ((8, 7) ∷ [])) (reverse gray_entries) None tag.XResolution
     (one_rational (0x08 ∷ 0x00 ∷ 0x00 ∷ 0x00 ∷ 0x00 ∷ 0x00 ∷ 0x00 ∷ 0x00 ∷ [])) refl
-    (λ f. false≢true (f.placed (omega arith) 15 (omega arith) (omega arith)))
+    (λ f. false≢true (f.placed (omega arith) 15 (omega arith) (omega arith))) r)
 
 pub tag_in_entry : s.tag_in_entry
 tag_in_entry = λ h.
-    h (tag_held (s.gray_source []) (reverse gray_entries) None tag.ImageWidth (record { placed = λ w. absurd (omega (arith, w)) }))
+    false≢true (sym (h (tag_held (s.gray_source []) (reverse gray_entries) None tag.ImageWidth (record { placed = λ w. absurd (omega (arith, w)) }))))
 
 pub ruleset worked = (
   opens,

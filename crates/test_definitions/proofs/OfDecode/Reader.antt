@@ -1,7 +1,9 @@
 -- The worked examples of `Decode.Reader` hold.
 use Rattle.std.specs.Prelude.{refl, get_or, length}
 use Rattle.std.proofs.Common.{◌≡◌, ℕ, ◌≤◌, List, [], ◌∷◌, ◌++◌, ap, inr, arith, lit<, lit≤}
-use Rattle.tiff_decode.specs.Reader.{EachGives}
+use Rattle.tiff_base.specs.declared.tags.Tag.TheVariants as tag
+use Rattle.tiff_base.specs.lemmas.Causes.{named_cause}
+use Rattle.tiff_decode.specs.Reader.{EachGives, FirstUnfit}
 use Rattle.test_definitions.specs.Decode.Reader as s
 
 -- the third number isn't the first that doesn't fit, as the second doesn't fit either
@@ -41,15 +43,18 @@ none_is_unfit = λ e u. both_fit u.before u.after u.n u.is u.unfit.1
 pub no_list_unfit : s.no_list_unfit
 no_list_unfit = λ e u. none_in u.before u.after u.n u.is
 
-pub numbers_great : s.numbers_great
-numbers_great =
+great : FirstUnfit {X = ℕ} {E = Unit {0}} s.byte tag.ImageWidth (7 ∷ 256 ∷ []) s.unfit
+great =
     record { before = 7 ∷ []; fitting = 7 ∷ []; n = 256; after = []; is = refl; fits = ((refl, lit< tt), tt); unfit = (tt, lit≤ tt, refl) }
 
+pub numbers_great : s.numbers_great
+numbers_great = named_cause _ refl great
+
 pub numbers_refused : s.numbers_refused
-numbers_refused = λ u. none_is_unfit s.unfit u
+numbers_refused = λ u. none_is_unfit s.unfit (u.other refl)
 
 pub list_great : s.list_great
-list_great = inr (7 ∷ 256 ∷ [], refl, numbers_great)
+list_great = named_cause _ refl (inr (7 ∷ 256 ∷ [], refl, great))
 
 pub ruleset worked =
     (second_unfit, none_is_unfit, no_list_unfit, numbers_great, numbers_refused, list_great)

@@ -1,7 +1,7 @@
 -- The worked examples of `Ifd.TagLookup` hold.
 use Rattle.std.specs.Prelude.{refl}
 use Rattle.std.specs.Prelude.{◌≡◌, ℕ, List, [], ◌∷◌, None, reverse, is_some}
-use Rattle.std.proofs.Common.{ap, arith}
+use Rattle.std.proofs.Common.{ap, arith, sym}
 use Rattle.std.proofs.lemmas.Bool.{false≢true}
 use Rattle.std.specs.Ordering.{nat_cmp}
 use Rattle.std.specs.Cmp.{nat_cmp_total}
@@ -70,10 +70,10 @@ pub other_readable : s.other_readable
 other_readable = tag_held (one_entry []) ((258, shorts 3) ∷ []) None tag.ImageWidth tt
 
 pub value_asked : s.value_asked
-value_asked = value_unreadable
+value_asked = λ r. absurd (value_unreadable r)
 
 pub value_asked_alone : s.value_asked_alone
-value_asked_alone = λ h. h value_readable
+value_asked_alone = λ h. false≢true (sym (h value_readable))
 
 pub ruleset worked = (
   list_read,

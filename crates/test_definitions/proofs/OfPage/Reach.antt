@@ -1,4 +1,5 @@
 -- The worked examples of `Page.Reach` hold.
+use Rattle.std.proofs.lemmas.Bool.{false≢true}
 use Rattle.std.proofs.Common.{◌≡◌, ℕ, cond, true, List, [], ◌∷◌, Equal, None, Some, arith, refl, ap, sym}
 use Rattle.std.proofs.lemmas.Bool.{and_parts, false≢true}
 use Rattle.std.specs.Cmp.{nat_cmp_is}
@@ -91,10 +92,10 @@ pub checks_chunks : s.checks_chunks
 checks_chunks = each_checked s.data_tags refl
 
 pub checks_asked : s.checks_asked
-checks_asked = checks_placed_all
+checks_asked = λ r. absurd (checks_placed_all r)
 
 pub checks_asked_alone : s.checks_asked_alone
-checks_asked_alone = λ h. h checks_placed
+checks_asked_alone = λ h. false≢true (sym (h checks_placed))
 
 pub ruleset worked = (
   pixel_needs_it,

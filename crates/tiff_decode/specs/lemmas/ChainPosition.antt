@@ -6,11 +6,10 @@ use Rattle.std.proofs.lemmas.Option.{slice_get_within, slice_get_past}
 use Rattle.std.specs.Prelude.{◌==◌, option_map}
 use Rattle.std.specs.List.{slice_get, last_or, IsDistinct, AllByRecursion}
 use Rattle.tiff_base.specs.declared.error.TiffError.{TiffError}
-use Rattle.tiff_base.specs.declared.error.TiffError.TheVariants.{FormatError, UnsupportedError, IoError, LimitsExceeded, IntSizeError, UsageError, OutOfMemory}
-use Rattle.tiff_base.specs.declared.io.IoKind.TheVariants.{UnexpectedEof, InvalidData, InvalidInput, WriteZero, Device}
 use Rattle.tiff_base.specs.declared.tags.ByteOrder.{ByteOrder}
 use Rattle.tiff_base.specs.declared.tags.FileKind.{FileKind}
 use Rattle.tiff_base.specs.declared.tags.IfdPointer.{IfdPointer}
+use Rattle.tiff_base.specs.lemmas.Causes.{cause_along, memory_not_device, named_cause, other_not_device, other_not_memory}
 use Rattle.tiff_base.specs.Answers.{IsCause, NoneSwallowed}
 use Rattle.tiff_base.specs.Directory.{directory_at}
 use Rattle.tiff_base.specs.Field.{DirectoryRecord}
@@ -174,34 +173,18 @@ gives_by e o s old new h a = record {
 -- before an error that is not of the device, no read failed
 pub unfailed : (e : TiffError) (before after : ℕ) → keeps_state e ≡ false
     → NoneSwallowed {X = Unit {0}} (Err e) before after → after ≡ before
-unfailed OutOfMemory before after k h = h
-unfailed (IoError Device) before after k h = absurd (cc)
-unfailed (IoError UnexpectedEof) before after k h = h
-unfailed (IoError InvalidData) before after k h = h
-unfailed (IoError InvalidInput) before after k h = h
-unfailed (IoError WriteZero) before after k h = h
-unfailed (FormatError x) before after k h = h
-unfailed (UnsupportedError x) before after k h = h
-unfailed LimitsExceeded before after k h = h
-unfailed IntSizeError before after k h = h
-unfailed (UsageError x) before after k h = h
+unfailed e before after k h = h (other_not_device e k)
 
 -- an error that does not leave the decoder unchanged
 pub answered : (W F G : Type 0) (e : TiffError) (o : Call) (s : State) (old new : Decoding)
     → keeps_state e ≡ false → IsCause W F e G
     → (G → o ≡ record { answer = Err e; next = s }) → new ≡ record old { state = s }
     → Follows (λ x. x) o (Err e) old new
-answered W F G OutOfMemory o t old new k c g s = absurd (cc)
-answered W F G (IoError Device) o t old new k c g s = absurd (cc)
-answered W F G (IoError UnexpectedEof) o t old new k c g s = gives_by _ o t old new (g c) s
-answered W F G (IoError InvalidData) o t old new k c g s = gives_by _ o t old new (g c) s
-answered W F G (IoError InvalidInput) o t old new k c g s = gives_by _ o t old new (g c) s
-answered W F G (IoError WriteZero) o t old new k c g s = gives_by _ o t old new (g c) s
-answered W F G (FormatError x) o t old new k c g s = gives_by _ o t old new (g c) s
-answered W F G (UnsupportedError x) o t old new k c g s = gives_by _ o t old new (g c) s
-answered W F G LimitsExceeded o t old new k c g s = gives_by _ o t old new (g c) s
-answered W F G IntSizeError o t old new k c g s = gives_by _ o t old new (g c) s
-answered W F G (UsageError x) o t old new k c g s = gives_by _ o t old new (g c) s
+answered W F G e o s old new k c g a = record {
+  memory = λ is. (let no = other_not_memory e k in absurd (cc));
+  device = λ is. (let no = other_not_device e k in absurd (cc));
+  other = λ is. gives_by e o s old new (g (c.other is)) a;
+}
 
 -- there is no such directory
 pub none_found : (e : TiffError) (o : Call) (s : State) (old new : Decoding) → e ≡ not_found
@@ -209,7 +192,7 @@ pub none_found : (e : TiffError) (o : Call) (s : State) (old new : Decoding) →
     → Follows (λ x. x) o (Err e) old new
 none_found e o s old new f h a =
     let P : TiffError → Type 0 = λ x. Follows (λ y. y) o (Err x) old new in
-    subst P (sym f) (gives_by not_found o s old new h a)
+    subst P (sym f) (named_cause _ refl (gives_by not_found o s old new h a))
 
 -- ---- the view of a decoder
 
@@ -248,17 +231,7 @@ shows_read r at d old mid new e k f =
 open_wanting : (o : Call) (r : Result (Unit {0}) TiffError) (d new : Decoding) → d.state.more ≡ true
     → Follows (λ x. x) o r d new → FollowsBut (d.state.more ≡ true) (λ x. x) o r d new
 open_wanting o (Ok u) d new m h = h
-open_wanting o (Err OutOfMemory) d new m h = (m, h.1)
-open_wanting o (Err (IoError Device)) d new m h = h
-open_wanting o (Err (IoError UnexpectedEof)) d new m h = h
-open_wanting o (Err (IoError InvalidData)) d new m h = h
-open_wanting o (Err (IoError InvalidInput)) d new m h = h
-open_wanting o (Err (IoError WriteZero)) d new m h = h
-open_wanting o (Err (FormatError x)) d new m h = h
-open_wanting o (Err (UnsupportedError x)) d new m h = h
-open_wanting o (Err LimitsExceeded) d new m h = h
-open_wanting o (Err IntSizeError) d new m h = h
-open_wanting o (Err (UsageError x)) d new m h = h
+open_wanting o (Err e) d new m h = cause_along e (λ w. (m, w.1)) (λ f. f) (λ g. g) h
 
 pub shown_open : (r : Result (Unit {0}) TiffError) (seen old new : Decoding) → seen ≡ old
     → seen.state.more ≡ true → Follows (λ x. x) (next_image seen) r seen new
@@ -378,32 +351,19 @@ pub stays_refused : (G : Type 0) (e : TiffError) (o : Call) (d : Decoding) (cont
     → IsCause (Unit {0}) (d.failures < after) e G → d.failures ≤ after
     → NoneSwallowed {X = Unit {0}} (Err e) d.failures after
     → Follows (λ x. x) o (Err e) d (record d { bytes = contents.bytes; readable = contents.readable; failures = after })
-stays_refused G OutOfMemory o d contents after k t c l s = (tt, told_same d contents after t s)
-stays_refused G (IoError Device) o d contents after k t c l s =
-    record { grew = c; at = record { stands = λ i. record d { bytes = (t i).bytes; readable = (t i).readable; failures = after }; failures = l } }
-stays_refused G (IoError UnexpectedEof) o d contents after k t c l s = absurd (cc)
-stays_refused G (IoError InvalidData) o d contents after k t c l s = absurd (cc)
-stays_refused G (IoError InvalidInput) o d contents after k t c l s = absurd (cc)
-stays_refused G (IoError WriteZero) o d contents after k t c l s = absurd (cc)
-stays_refused G (FormatError x) o d contents after k t c l s = absurd (cc)
-stays_refused G (UnsupportedError x) o d contents after k t c l s = absurd (cc)
-stays_refused G LimitsExceeded o d contents after k t c l s = absurd (cc)
-stays_refused G IntSizeError o d contents after k t c l s = absurd (cc)
-stays_refused G (UsageError x) o d contents after k t c l s = absurd (cc)
+stays_refused G e o d contents after k t c l s = record {
+  memory = λ is. (tt, told_same d contents after t (s (memory_not_device e is)));
+  device =
+      λ is. record {
+        grew = c.device is;
+        at = record { stands = λ i. record d { bytes = (t i).bytes; readable = (t i).readable; failures = after }; failures = l };
+      };
+  other = λ is. absurd (cc);
+}
 
 -- the cause of an error that does not leave the decoder as it is
 cause_is : (W F G : Type 0) (e : TiffError) → keeps_state e ≡ false → IsCause W F e G → G
-cause_is W F G OutOfMemory k c = absurd (cc)
-cause_is W F G (IoError Device) k c = absurd (cc)
-cause_is W F G (IoError UnexpectedEof) k c = c
-cause_is W F G (IoError InvalidData) k c = c
-cause_is W F G (IoError InvalidInput) k c = c
-cause_is W F G (IoError WriteZero) k c = c
-cause_is W F G (FormatError x) k c = c
-cause_is W F G (UnsupportedError x) k c = c
-cause_is W F G LimitsExceeded k c = c
-cause_is W F G IntSizeError k c = c
-cause_is W F G (UsageError x) k c = c
+cause_is W F G e k c = c.other k
 
 -- a seek past the end, from a place that a directory follows
 seek_open : (d : Decoding) (k : ℕ) (offsets : List ℕ) (end : Option TiffError)

@@ -93,18 +93,21 @@ pub told : {X Y : Type 0} (wanting : Type 0) (view : X → Y) (o : Outcome Y) (r
     (old new : Decoding)
     → FollowsBut wanting view o r old new → IsTold view o r old new
 told wanting view o (Err (IoError Device)) old new h =
-    told_failed _ o.next old new (omega (arith, h.grew)) h.at
-told wanting view o (Err OutOfMemory) old new h = told_wanting _ o.next old new h.1
+    let f = h.device refl in told_failed _ o.next old new (omega (arith, f.grew)) f.at
+told wanting view o (Err OutOfMemory) old new h = told_wanting _ o.next old new (h.memory refl).1
+told wanting view o (Err e) old new h =
+    let g = h.other refl in told_so _ o.next old new (sym g.answer) g.at
 told wanting view o r old new h = told_so _ o.next old new (sym h.answer) h.at
 
 told_here : {X Y : Type 0} (wanting : Type 0) (view : X → Y) (o : Outcome Y)
     (r : Result X TiffError) (old new : Decoding)
     → (o.next ≡ old.state ⊎ (wanting → ⊥)) → FollowsWithoutSourceBut wanting view o r old new
     → IsTold view o r old new
-told_here wanting view o (Err (IoError Device)) old new s h = absurd h.0
+told_here wanting view o (Err (IoError Device)) old new s h = absurd (h.0.device refl)
 told_here wanting view o (Err OutOfMemory) old new (inl same) h =
     told_wanting _ o.next old new (h.1 ∙ ap (λ (s : State). record old { state = s }) same)
-told_here wanting view o (Err OutOfMemory) old new (inr never) h = absurd (never h.0)
+told_here wanting view o (Err OutOfMemory) old new (inr never) h = absurd (never (h.0.memory refl))
+told_here wanting view o (Err e) old new s h = told_so _ o.next old new (sym (h.0.other refl)) h.1
 told_here wanting view o r old new s h = told_so _ o.next old new (sym h.0) h.1
 
 -- a read of tags, which leaves the state unchanged
@@ -116,9 +119,11 @@ told_of_tags : {X Y : Type 0} (wanting : Type 0) (view : X → Y) (o : Outcome Y
     (r : Result X TiffError) (old new : Decoding) → TagsRead wanting view o r old new
     → IsTold view (stays old o.answer) r old new
 told_of_tags wanting view o (Err (IoError Device)) old new h =
-    told_failed _ old.state old new (omega (arith, h.answer)) (record { stands = h.state; failures = h.failures })
+    told_failed _ old.state old new (omega (arith, h.answer.device refl)) (record { stands = h.state; failures = h.failures })
 told_of_tags wanting view o (Err OutOfMemory) old new h =
-    told_wanting _ old.state old new (none_failed old new h.state h.swallowed)
+    told_wanting _ old.state old new (none_failed old new h.state (h.swallowed refl))
+told_of_tags wanting view o (Err e) old new h =
+    told_so _ old.state old new (sym (h.answer.other refl)) (none_failed old new h.state (h.swallowed refl))
 told_of_tags wanting view o r old new h =
     told_so _ old.state old new (sym h.answer) (none_failed old new h.state h.swallowed)
 
@@ -167,8 +172,9 @@ told_by p s count named old new h = absurd h
 
 item_grows : (given : Result (Tag × PlainValue) TiffError) (x : Result (Tag × Value) TiffError)
     (before after : ℕ) → ItemIs given x before after → before + device_count (fault_of x) ≤ after
-item_grows given (Err (IoError Device)) before after h = omega (arith, h)
-item_grows given (Err OutOfMemory) before after h = omega (arith, h)
+item_grows given (Err (IoError Device)) before after h = omega (arith, h.device refl)
+item_grows given (Err OutOfMemory) before after h = omega (arith, h.memory refl)
+item_grows given (Err e) before after h = omega (arith, (h.other refl).1)
 item_grows given x before after h = omega (arith, h.1)
 
 items_grow : (gs : List (Result (Tag × PlainValue) TiffError))
@@ -185,6 +191,7 @@ item_told : (given : Result (Tag × PlainValue) TiffError) (x : Result (Tag × V
     → view_of_item x ≡ given
 item_told given (Err (IoError Device)) before after h n = absurd n
 item_told given (Err OutOfMemory) before after h n = absurd n
+item_told given (Err e) before after h n = sym (h.other refl).0
 item_told given x before after h n = sym h.0
 
 items_told : (gs : List (Result (Tag × PlainValue) TiffError))

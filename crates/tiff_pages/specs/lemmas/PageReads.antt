@@ -1,10 +1,8 @@
 -- Reads of a page: what a call that reads pixels leaves, and what follows it.
 use Rattle.std.proofs.Common.{◌≡◌, ℕ, Result, Ok, Err, ap, ◌∙◌}
 use Rattle.tiff_base.specs.declared.error.TiffError.{TiffError}
-use Rattle.tiff_base.specs.declared.error.TiffError.TheVariants.{FormatError, UnsupportedError, IoError, LimitsExceeded, IntSizeError, UsageError, OutOfMemory}
-use Rattle.tiff_base.specs.declared.io.IoKind.TheVariants.{UnexpectedEof, InvalidData, InvalidInput, WriteZero, Device}
 use Rattle.tiff_base.specs.Answers.{◌>>=◌, Answers, AnswersWithoutSource}
-use Rattle.tiff_base.specs.lemmas.Causes.{cause_along}
+use Rattle.tiff_base.specs.lemmas.Causes.{cause_along, from_cause}
 use Rattle.tiff_decode.specs.Machine.{Decoding, Follows, stays}
 use Rattle.tiff_pages.specs.Check.{ReadsPage}
 
@@ -13,28 +11,13 @@ pub reads_page : {X Y : Type 0} (view : X → Y) (a : Result Y TiffError) (r : R
     (d new : Decoding) → Follows view (stays d a) r d new → ReadsPage view a r d new
 reads_page view a (Ok x) d new h =
     record { answer = h.answer; stays = λ k. h.at; readable = ap (λ (e : Decoding). e.readable) h.at }
-reads_page view a (Err OutOfMemory) d new h =
-    record { answer = tt; stays = λ k. absurd (cc); readable = ap (λ (e : Decoding). e.readable) h.1 }
-reads_page view a (Err (IoError Device)) d new h =
-    record { answer = h.grew; stays = λ k. absurd (cc); readable = ap (λ (e : Decoding). e.readable) h.at.stands }
-reads_page view a (Err (IoError UnexpectedEof)) d new h =
-    record { answer = h.answer; stays = λ k. h.at; readable = ap (λ (e : Decoding). e.readable) h.at }
-reads_page view a (Err (IoError InvalidData)) d new h =
-    record { answer = h.answer; stays = λ k. h.at; readable = ap (λ (e : Decoding). e.readable) h.at }
-reads_page view a (Err (IoError InvalidInput)) d new h =
-    record { answer = h.answer; stays = λ k. h.at; readable = ap (λ (e : Decoding). e.readable) h.at }
-reads_page view a (Err (IoError WriteZero)) d new h =
-    record { answer = h.answer; stays = λ k. h.at; readable = ap (λ (e : Decoding). e.readable) h.at }
-reads_page view a (Err (FormatError x)) d new h =
-    record { answer = h.answer; stays = λ k. h.at; readable = ap (λ (e : Decoding). e.readable) h.at }
-reads_page view a (Err (UnsupportedError x)) d new h =
-    record { answer = h.answer; stays = λ k. h.at; readable = ap (λ (e : Decoding). e.readable) h.at }
-reads_page view a (Err LimitsExceeded) d new h =
-    record { answer = h.answer; stays = λ k. h.at; readable = ap (λ (e : Decoding). e.readable) h.at }
-reads_page view a (Err IntSizeError) d new h =
-    record { answer = h.answer; stays = λ k. h.at; readable = ap (λ (e : Decoding). e.readable) h.at }
-reads_page view a (Err (UsageError x)) d new h =
-    record { answer = h.answer; stays = λ k. h.at; readable = ap (λ (e : Decoding). e.readable) h.at }
+reads_page view a (Err e) d new h = record {
+  answer = cause_along e (λ w. tt) (λ f. f.grew) (λ g. g.answer) h;
+  stays = λ k. (h.other k).at;
+  readable =
+      from_cause e (λ w. ap (λ (d : Decoding). d.readable) w.1)
+      (λ f. ap (λ (d : Decoding). d.readable) f.at.stands) (λ g. ap (λ (d : Decoding). d.readable) g.at) h;
+}
 
 -- An error of a read is the error of what follows it.
 pub read_refused : {X X' Y Y' : Type 0} (view : X → Y) (view' : X' → Y') (a : Result Y TiffError)

@@ -2,8 +2,6 @@
 use Rattle.std.proofs.Common.{◌≡◌, ◌∙◌, ◌==◌, ℕ, ◌+◌, ◌<◌, ◌≤◌, Bool, true, false, cond, List, length, Result, Ok, Err, IfErr, IfOk, MatchResult, Option, None, Some, sym, ap, subst, arith}
 use Rattle.std.specs.Int.{w16}
 use Rattle.tiff_base.specs.declared.error.TiffError.{TiffError}
-use Rattle.tiff_base.specs.declared.error.TiffError.TheVariants.{FormatError, UnsupportedError, IoError, UsageError, LimitsExceeded, IntSizeError, OutOfMemory}
-use Rattle.tiff_base.specs.declared.io.IoKind.TheVariants.{UnexpectedEof, InvalidData, InvalidInput, WriteZero, Device}
 use Rattle.tiff_base.specs.declared.windows.Stretch.{Stretch}
 use Rattle.tiff_base.specs.declared.windows.Windows.{Windows}
 use Rattle.tiff_base.specs.Answers.{◌>>=◌, Answers, AnswersBut, AnswersWithoutSource, ReadsOnly, IsCause, IsNotDevice}
@@ -133,17 +131,8 @@ header_readable source h k low high =
 -- an error that isn't the device's
 not_device : (wanting failed : Type 0) (e : TiffError) (given : Type 0) → IsNotDevice e
     → IsCause wanting failed e given → IsCause wanting ⊥ e given
-not_device wanting failed OutOfMemory given n h = h
-not_device wanting failed (IoError Device) given n h = n
-not_device wanting failed (IoError UnexpectedEof) given n h = h
-not_device wanting failed (IoError InvalidData) given n h = h
-not_device wanting failed (IoError InvalidInput) given n h = h
-not_device wanting failed (IoError WriteZero) given n h = h
-not_device wanting failed (FormatError x) given n h = h
-not_device wanting failed (UnsupportedError x) given n h = h
-not_device wanting failed (UsageError x) given n h = h
-not_device wanting failed LimitsExceeded given n h = h
-not_device wanting failed IntSizeError given n h = h
+not_device wanting failed e given n h =
+    record { memory = h.memory; device = λ is. absurd (cc); other = h.other }
 
 pub opened_seen : (file : List ℕ) (source : SourceRecord) (failed : ℕ) (fails : Type 0)
     (result : Result Decoding TiffError) → failed ≡ 0

@@ -1,7 +1,7 @@
-use Rattle.std.proofs.Common.{arith, ◌∙◌}
+use Rattle.std.proofs.Common.{arith, refl, ◌∙◌}
 use Rattle.std.proofs.lemmas.Grind.{common_steps}
 use Rattle.std.proofs.lemmas.Result.{err_from_is_err_and}
-use Rattle.tiff_base.specs.lemmas.Causes.{cause_along}
+use Rattle.tiff_base.specs.lemmas.Causes.{cause_along, named_cause}
 use Rattle.tiff_ffi.proofs.Ranges.{all_read, goes_on, stops_at_none, stops_short, stops_unread}
 use Rattle.tiff_ffi.proofs.range.chunks_between.Goals as goal
 
@@ -39,7 +39,8 @@ returns-then-provided-len-clause-answer g c =
     let by = g.R.ReadsChunks.reading c.args.chunks.now in
     let i = c.loop-chunk.invariant in
     let len = rw i.stays at c.in_ok-len.ensures.answer in
-    rw c.into.ensures (stops_short by c.args.first c.args.end c.loop-chunk.chunk c.loop-chunk.at c.args.buffer.now c.loop-chunk.buffer c.loop-chunk-test.true i.room i.left c.in_ok-len.len len (omega (arith, c.if-provided-len.true)))
+    rw c.into.ensures (named_cause _ refl
+    (stops_short by c.args.first c.args.end c.loop-chunk.chunk c.loop-chunk.at c.args.buffer.now c.loop-chunk.buffer c.loop-chunk-test.true i.room i.left c.in_ok-len.len len (omega (arith, c.if-provided-len.true))))
 
 pub returns-in_err-read-clause-answer : goal.returns-in_err-read-clause-answer
 returns-in_err-read-clause-answer g c =

@@ -1,7 +1,14 @@
-use Rattle.std.proofs.Common.{rules, ◌≡◌, ◌+◌, ◌*◌, ◌++◌, [], Ok, List, ℕ, ap, sym, subst, ◌∙◌, arith}
+use Rattle.std.proofs.Common.{rules, ◌≡◌, ◌+◌, ◌*◌, ◌++◌, [], Ok, Err, IfErr, List, Result, ℕ, ap, sym, subst, ◌∙◌, arith}
+use Rattle.std.proofs.lemmas.Grind.{common_steps}
+use Rattle.std.proofs.lemmas.Result.{err_from_is_err_and}
+use Rattle.std.specs.Prelude.{IsErrAnd}
 use Rattle.std.specs.List.{cons_option}
 use Rattle.tiff_base.specs.Directory.{entry_len, entry_of, entry_at, entries_from}
 use Rattle.tiff_base.specs.Field.{Field}
+use Rattle.tiff_base.specs.Answers.{IsCause}
+use Rattle.tiff_base.specs.declared.error.TiffError.{TiffError}
+use Rattle.tiff_base.specs.declared.error.TiffError.TheVariants.{OutOfMemory}
+use Rattle.tiff_base.specs.lemmas.Causes.{cause_along}
 use Rattle.tiff_base.specs.lemmas.Contents.{same_bytes}
 use Rattle.tiff_ifd.specs.lemmas.Entries.{read_there, entries_more}
 use Rattle.tiff_ifd.proofs.decode.read_entries.Goals as goal
@@ -27,3 +34,25 @@ loop-i-preserved g c =
           {y = entries_from c.args.kind c.args.order bytes c.args.table.first c.loop-i.i} i.so_far
           ∙ sym (entries_more c.args.kind c.args.order bytes c.args.table.first c.loop-i.i c.in_ok-entry.entry this);
     }
+
+pub returns-in_err-entry-clause-cut : goal.returns-in_err-entry-clause-cut
+returns-in_err-entry-clause-cut g c =
+    let answered = err_from_is_err_and c.from_residual.result c.from_residual.ensures.1 in
+    let i = c.loop-i.invariant in
+    rw (answered.1, answered.2) (cause_along c.in_err-entry.field-0.0 (λ w. absurd w)
+    (λ f. omega (arith, f, i.failures))
+    (λ h. grind (arith, common_steps, h, same_bytes i.same, i.here, c.loop-i-test.true))
+    c.in_err-entry.ensures.answer)
+
+-- a list that can't grow, for want of memory
+no_room : {X : Type 0} (r : Result X TiffError) (failed : Type 0) (given : TiffError → Type 0)
+    → IsErrAnd r (λ e. e ≡ OutOfMemory) → IfErr r (λ e. IsCause (Unit {0}) failed e (given e))
+no_room (Ok x) failed given q = tt
+no_room (Err e) failed given q =
+    let here : IsCause (Unit {0}) failed OutOfMemory (given OutOfMemory) =
+    record { memory = λ is. tt; device = λ is. absurd (cc); other = λ is. absurd (cc) } in
+    subst (λ f. IsCause (Unit {0}) failed f (given f)) (sym q) here
+
+pub returns-in_err-add-clause-cut : goal.returns-in_err-add-clause-cut
+returns-in_err-add-clause-cut g c =
+    no_room c.from_residual-in_err-add.result _ _ c.from_residual-in_err-add.ensures.1

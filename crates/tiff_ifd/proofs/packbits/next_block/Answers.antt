@@ -1,5 +1,6 @@
 use Rattle.std.proofs.Common.{◌+◌, arith, refl, sym, ◌∙◌, inl}
 use Rattle.std.proofs.lemmas.Result.{err_from_is_err_and}
+use Rattle.tiff_base.specs.lemmas.Causes.{named_cause}
 use Rattle.tiff_base.specs.lemmas.Contents.{same_bytes}
 use Rattle.tiff_ifd.specs.lemmas.Unpacking.{same_byte, nothing_told, literal_begun, run_begun, header_cause, value_cause, value_missing, all_read}
 use Rattle.tiff_ifd.proofs.packbits.next_block.Goals as goal
@@ -23,12 +24,10 @@ pub returns-then-len-eq0-clause-block : goal.returns-then-len-eq0-clause-block
 returns-then-len-eq0-clause-block g c =
     let b =
     same_byte (g.R.Source.contents c.args.source.now).bytes (g.R.Source.contents c.loop-len.source).bytes c.loop-len.at c.in_ok-header.header (same_bytes c.loop-len.invariant.same) c.in_ok-header.ensures.byte in
-    record {
-      fault = refl;
-      broken = c.loop-len.invariant.same_rest
-          ∙ value_missing (g.R.Source.contents c.args.source.now).bytes c.loop-len.at c.loop-len.len c.in_ok-header.header c.loop-len-test.true b.0 b.1 c.if-header-gt128.true (inl c.if-len-eq0.true);
-      some = omega arith;
-    }
+    let broken =
+    c.loop-len.invariant.same_rest
+    ∙ value_missing (g.R.Source.contents c.args.source.now).bytes c.loop-len.at c.loop-len.len c.in_ok-header.header c.loop-len-test.true b.0 b.1 c.if-header-gt128.true (inl c.if-len-eq0.true) in
+    named_cause _ refl (record { fault = refl; broken = broken; some = omega arith })
 
 pub returns-in_err-value-clause-block : goal.returns-in_err-value-clause-block
 returns-in_err-value-clause-block g c =

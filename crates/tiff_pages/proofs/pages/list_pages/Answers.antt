@@ -1,8 +1,10 @@
-use Rattle.std.proofs.Common.{rules, ◌≡◌, true, false, Err, Some, None, refl, ap, sym, ◌∙◌}
+use Rattle.std.proofs.Common.{arith, rules, ◌≡◌, true, false, Err, Some, None, refl, ap, sym, ◌∙◌}
+use Rattle.std.proofs.lemmas.Result.{err_from_is_err_and}
 use Rattle.std.specs.Result.{result_err}
+use Rattle.tiff_base.specs.lemmas.Causes.{cause_along}
 use Rattle.tiff_decode.specs.Machine.{Decoding}
 use Rattle.tiff_decode.specs.Outcome.{next_image}
-use Rattle.tiff_pages.proofs.Along.{all_listed, ended, fewer, has_page, kept_state, lists_first, lists_next, moved, on_its_way, some_after, some_pointer, sought_first, stands_behind, stands_last, went_on}
+use Rattle.tiff_pages.proofs.Along.{all_listed, ended, fewer, has_page, kept_cause, kept_state, lists_first, lists_next, moved, on_its_way, some_after, some_pointer, sought_first, stands_behind, stands_last, went_on}
 use Rattle.tiff_pages.proofs.NoPages.{found, lists_none, none_by, some_by, some_here, stands_none, still_none, way_none}
 use Rattle.tiff_pages.proofs.pages.list_pages.Goals as goal
 
@@ -44,6 +46,15 @@ returns-in_err-entered-2-clause-way g c =
     (Err c.in_err-entered-2.field-0.0) c.next_image.new.self.state l.listed.along
     (kept ∙ ap (λ (d : Decoding). d.state) l.state) in
     search rules
+
+pub returns-in_err-entered-2-clause-refused : goal.returns-in_err-entered-2-clause-refused
+returns-in_err-entered-2-clause-refused g c =
+    let answered =
+    err_from_is_err_and c.from_residual-in_err-entered-2.result c.from_residual-in_err-entered-2.ensures.1 in
+    let same = ap (λ (d : Decoding). d.failures) c.pages.invariant.state in
+    rw (answered.1, answered.2) (cause_along c.in_err-entered-2.field-0.0 (λ w. w)
+    (λ f. omega (arith, f, same)) (λ h. h) (kept_cause (c.pages.decoder.state.more ≡ true) (next_image c.pages.decoder) c.next_image.result
+    c.in_err-entered-2.field-0.0 c.pages.decoder c.next_image.new.self c.in_err-entered-2.ensures (rw c.place_of-here.ensures.stays at c.next_image.ensures.follows)))
 
 pub place_of-requires : goal.place_of-requires
 place_of-requires g c =

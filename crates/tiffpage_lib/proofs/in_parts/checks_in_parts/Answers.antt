@@ -5,6 +5,7 @@ use Rattle.tiff_base.specs.Answers.{AnswersWithoutSource}
 use Rattle.tiff_pages.specs.declared.check.PageCheck.{PageCheck}
 use Rattle.tiff_pages.specs.OfFile.{check_of, list_of}
 use Rattle.tiff_pages.specs.Pages.{pages_in}
+use Rattle.tiffpage_lib.specs.lemmas.Memory.{memory_out}
 use Rattle.tiffpage_lib.proofs.InParts.{all_so_far, check_refused, one_so_far, pages_refused, pushed, saw_answer, saw_both, saw_if, saw_nothing, sees_refused}
 use Rattle.tiffpage_lib.proofs.in_parts.checks_in_parts.Goals as goal
 
@@ -36,7 +37,7 @@ returns-then-is_err g c =
     saw_answer g.F.Files.reads_part c.args.name c.args.len file may c.loop-page.files last c.in_ok-check.check c.in_ok-check.ensures in
     let both =
     saw_both g.F.Files.reads_part c.args.name c.args.len file c.args.files.now c.loop-page.files last c.loop-page.invariant one in
-    inl (Err OutOfMemory, saw_if g.F.Files.reads_part c.args.name c.args.len file c.args.files.now last (λ h. tt) both, refl)
+    inl (Err OutOfMemory, saw_if g.F.Files.reads_part c.args.name c.args.len file c.args.files.now last (λ h. memory_out) both, refl)
 
 pub loop-page-preserved : goal.loop-page-preserved
 loop-page-preserved g c =

@@ -6,6 +6,7 @@ use Rattle.tiff_page.specs.PageView as view
 use Rattle.tiff_decode.specs.Machine.{Decoding, decoding}
 use Rattle.tiff_decode.specs.Outcome.{find_entry, find_tag_bytes}
 use Rattle.tiff_decode.specs.Reader.{reader_of}
+use Rattle.tiff_decode.proofs.Refusing.{tag_asked}
 use Rattle.tiff_decode.proofs.TagBytes.{part_refused}
 use Rattle.tiff_decode.proofs.decoder.Decoder.bytes_in.Goals as goal
 
@@ -26,3 +27,13 @@ returns-in_err-n-clause-answer g c =
     < g.R.Source.failures c.read_part.new.source) c.in_err-n.field-0.0
     ((find_tag_bytes (reader_of x other) c.args.tag c.args.buf.now c.args.at).answer ≡ Err c.in_err-n.field-0.0)) c.self.view_is
     (part_refused (reader_of d other) c.args.tag c.args.buf.now c.args.at _ c.in-Some.entry c.in_err-n.field-0.0 has c.in_err-n.ensures.answer))
+
+pub returns-in_err-n-clause-asked : goal.returns-in_err-n-clause-asked
+returns-in_err-n-clause-asked g c =
+    let s = c.self.inside in
+    let d : Decoding =
+    decoding (g.R.Source.contents s.tags.source) s.tags.kind s.tags.order s.first
+    (g.R.Source.failures s.tags.source) s.standing.pointer s.standing.more
+    (view.page s.page) s.tags.directory s.offset s.tags.limits in
+    let answered = err_from_is_err_and c.from_residual.result c.from_residual.ensures.1 in
+    rw (answered.1, answered.2) (tag_asked d _ (option_map (λ (x : Bor DirectoryRecord). x.now) c.args.other) c.args.tag c.in-Some.entry c.in_err-n.field-0.0 c.self.view_is (sym c.in-Some.ensures) c.in_err-n.ensures.asked)

@@ -1,5 +1,6 @@
-use Rattle.std.proofs.Common.{arith}
+use Rattle.std.proofs.Common.{refl, arith}
 use Rattle.std.proofs.lemmas.Result.{err_from_is_err_and}
+use Rattle.tiff_base.specs.lemmas.Causes.{named_cause}
 use Rattle.tiff_ifd.specs.FieldValue.{field_value, stands_in_entry}
 use Rattle.tiff_ifd.specs.lemmas.Unsigned.{numbers_placed, numbers_too_long}
 use Rattle.tiff_ifd.specs.lemmas.Within.{numbers_answered, numbers_refused}
@@ -7,7 +8,7 @@ use Rattle.tiff_ifd.proofs.field_reader.FieldReader.read_numbers.Goals as goal
 
 pub returns-in_default-clause-answer : goal.returns-in_default-clause-answer
 returns-in_default-clause-answer g c =
-    numbers_too_long c.args.self.now.kind c.args.self.now.order (g.R.Source.contents c.args.source.now).bytes c.args.self.now.limits.now c.args.entry.now c.in_default.ensures
+    named_cause _ refl (numbers_too_long c.args.self.now.kind c.args.self.now.order (g.R.Source.contents c.args.source.now).bytes c.args.self.now.limits.now c.args.entry.now c.in_default.ensures)
 
 pub returns-then-len-offset_len-clause-answer : goal.returns-then-len-offset_len-clause-answer
 returns-then-len-offset_len-clause-answer g c =

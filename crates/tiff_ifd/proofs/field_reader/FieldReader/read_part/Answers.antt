@@ -1,12 +1,13 @@
-use Rattle.std.proofs.Common.{arith, length}
+use Rattle.std.proofs.Common.{refl, arith, length}
 use Rattle.std.proofs.lemmas.List.{length-take}
 use Rattle.std.proofs.lemmas.Result.{err_from_is_err_and}
+use Rattle.tiff_base.specs.lemmas.Causes.{named_cause}
 use Rattle.tiff_ifd.proofs.Parts.{part_behind, part_read, part_refused, part_too_long}
 use Rattle.tiff_ifd.proofs.field_reader.FieldReader.read_part.Goals as goal
 
 pub returns-in_default-clause-answer : goal.returns-in_default-clause-answer
 returns-in_default-clause-answer g c =
-    part_too_long c.args.self.now.kind c.args.self.now.order (g.R.Source.contents c.args.source.now).bytes c.args.entry.now (length c.args.buf.now) c.args.at c.in_default.ensures
+    named_cause _ refl (part_too_long c.args.self.now.kind c.args.self.now.order (g.R.Source.contents c.args.source.now).bytes c.args.entry.now (length c.args.buf.now) c.args.at c.in_default.ensures)
 
 pub returns-then-len-at-clause-answer : goal.returns-then-len-at-clause-answer
 returns-then-len-at-clause-answer g c =

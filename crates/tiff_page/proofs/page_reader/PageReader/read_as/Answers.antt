@@ -1,4 +1,4 @@
-use Rattle.std.proofs.Common.{◌≡◌, ◌∙◌, ◌*◌, ℕ, List, [], Ok, ap, arith, map, sym}
+use Rattle.std.proofs.Common.{◌≡◌, ◌∙◌, ◌*◌, ℕ, List, [], Ok, ap, arith, map, refl, sym}
 use Rattle.std.specs.Int.{div_ceil}
 use Rattle.std.proofs.lemmas.Result.{err_from_is_err_and}
 use Rattle.tiff_base.specs.lemmas.Contents.{same_bytes}
@@ -6,7 +6,7 @@ use Rattle.tiff_page.specs.BufferPositions.{filled_to}
 use Rattle.tiff_page.specs.NumberBytes.{bytes_in, no_bytes, whole_enough}
 use Rattle.tiff_page.specs.Samples.{color_in, first_in, room_of}
 use Rattle.tiff_page.specs.PageView as view
-use Rattle.tiff_page.specs.lemmas.Requests.{filling_cause, zeros_filled, first_readable, portion_filled}
+use Rattle.tiff_page.specs.lemmas.Requests.{filling_cause, zeros_filled, first_readable, portion_early, portion_filled}
 use Rattle.tiff_page.specs.lemmas.PositionLaws.{sides_of}
 use Rattle.tiff_page.specs.lemmas.Rects.{none_filled}
 use Rattle.tiff_page.proofs.page_reader.PageReader.read_as.Goals as goal
@@ -44,3 +44,10 @@ returns-in_err-requested-clause-asked g c =
     let answered =
     err_from_is_err_and c.from_residual-in_err-requested.result c.from_residual-in_err-requested.ensures.1 in
     rw (answered.1, answered.2) (portion_filled c.args.self.now.order (view.page c.args.self.now.page.now) c.args.request _ (g.R.Source.contents c.args.source.now) (g.R.Source.contents c.allocate_output.new.source) c.in_ok-numbers.ensures.kept.contents c.in_err-requested.ensures.asked)
+
+pub returns-in_err-numbers-clause-answer : goal.returns-in_err-numbers-clause-answer
+returns-in_err-numbers-clause-answer g c =
+    let p = c.args.self.now.page.now in
+    let answered = err_from_is_err_and c.from_residual.result c.from_residual.ensures.1 in
+    rw (answered.1, answered.2) (portion_early _ _ (g.R.Source.contents c.args.source.now).bytes c.args.self.now.order (view.page p) c.args.self.now.limits.now c.args.request (color_in c.args.request) c.args.sample_type (first_in c.args.request) c.args.len
+    c.in_err-numbers.field-0.0 (sides_of p) c.requires.laid c.requires.typed refl refl c.in_err-numbers.ensures.answer)
