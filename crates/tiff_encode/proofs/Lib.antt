@@ -1,4 +1,5 @@
 pub mod Columns
+pub mod Alike
 pub mod Keeping
 pub mod Moving
 pub mod DirectoryMoves

@@ -1,5 +1,5 @@
 -- The last tags of an image, part by part (this project's).
-use Rattle.std.specs.Prelude.{ℕ, ◌+◌, ◌==◌, List, [], ◌∷◌, ◌++◌, length, map, replicate, Ok, if◌then◌else◌}
+use Rattle.std.specs.Prelude.{ℕ, ◌+◌, ◌==◌, List, [], ◌∷◌, ◌++◌, length, map, Ok, if◌then◌else◌}
 use Rattle.std.proofs.Common.{refl}
 use Rattle.tiff_base.specs.declared.color.ChunkType.{ChunkType}
 use Rattle.tiff_base.specs.declared.color.ChunkType.TheVariants.{Strip, Tile}
@@ -19,11 +19,6 @@ use Rattle.tiff_encode.specs.declared.encoder.image.finish.ChunkListKind.TheVari
 use Rattle.tiff_encode.specs.Machine.{Chunk}
 use Rattle.tiff_encode.specs.Value.{offset_values}
 use Rattle.tiff_encode.specs.Calls.{extended_by_first, chunk_tags}
-
--- `count` copies of the first item of a list; none of an empty list
-abbrev pub more_of : {A : Type 0} → List A → ℕ → List A
-more_of [] count = []
-more_of (x ∷ xs) count = replicate count x
 
 -- the tag of the number of samples of a pixel, if some are extra samples
 abbrev pub count_tags : List ℕ → ℕ → List (Tag × Scalars)

@@ -1,5 +1,5 @@
 -- All samples of a named color type have the same depth and the same format.
-use Rattle.std.proofs.Common.{zero, suc, ◌≡◌, ℕ, ◌+◌, ◌-◌, ◌^◌, ◌<◌, ◌==◌, List, ◌∷◌, ◌++◌, length, map, replicate, get_or, true, Some, Ok, refl, ap, sym, ◌∙◌, subst, arith, lit<}
+use Rattle.std.proofs.Common.{zero, suc, ◌≡◌, ℕ, ◌+◌, ◌-◌, ◌^◌, ◌<◌, ◌==◌, List, ◌∷◌, length, map, replicate, get_or, true, Some, Ok, refl, ap, sym, ◌∙◌, subst, arith, lit<}
 use Rattle.std.proofs.lemmas.Bool.{eq-eqb, ne_eqb}
 use Rattle.std.proofs.lemmas.List.{length-replicate}
 use Rattle.std.specs.List.{list_all}
@@ -21,6 +21,7 @@ use Rattle.tiff_encode.specs.Machine.{OpenImage}
 use Rattle.tiff_encode.specs.Chunks.{all_samples}
 use Rattle.tiff_encode.specs.Calls.{extended_by_first}
 use Rattle.tiff_encode.specs.Held.{IsWholeImage}
+use Rattle.tiff_encode.proofs.Alike.{repeated_is}
 use Rattle.tiff_encode.proofs.PageTold.Values.{AllBelow}
 
 -- ---- the samples of a color type
@@ -79,18 +80,6 @@ named_alike name =
     }
 
 -- ---- equal numbers
-
--- a repeated value, extended by more of the same
-many_more : {A : Type 0} (k e : ℕ) (x : A) → replicate k x ++ replicate e x ≡ replicate (k + e) x
-many_more zero e x = let z : 0 + e ≡ e = omega arith in ap (λ n. replicate n x) (sym z)
-many_more (suc k) e x =
-    let z : suc k + e ≡ suc (k + e) = omega arith in
-    ap (λ xs. x ∷ xs) (many_more k e x) ∙ ap (λ n. replicate n x) (sym z)
-
--- extending a repeated value by its first element repeats it more often
-repeated_is : {A : Type 0} (k e : ℕ) (x : A)
-    → extended_by_first (replicate (suc k) x) e ≡ replicate (suc (k + e)) x
-repeated_is k e x = ap (λ xs. x ∷ xs) (many_more k e x)
 
 -- mapping a repeated value repeats the mapped value
 map_replicate : {A B : Type 0} (g : A → B) (k : ℕ) (x : A)

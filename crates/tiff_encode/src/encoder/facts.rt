@@ -12,7 +12,7 @@ use crate::encoder::directory::state::DirectoryState;
 use crate::encoder::image::state::ImageState;
 use crate::encoder::kind::TiffKind;
 use tiff_base::io::Sink;
-use tiff_value::encoder::colortype::ColorType;
+use tiff_value::encoder::horizontal_predictor::Sample;
 
 impl<W: Sink, K: TiffKind> TiffEncoder<W, K> {
     /// The file is shorter than 2^64 bytes if no write failed.
@@ -48,7 +48,7 @@ impl DirectoryState {
     }
 }
 
-impl<C: ColorType> ImageState<C> {
+impl<T: Sample> ImageState<T> {
     /// The fields of the image's directory are entries that a directory can have.
     pub(crate) fn fact_fits(&self)
         ensures { AreEntries self.now.directory.fields }
@@ -58,7 +58,7 @@ impl<C: ColorType> ImageState<C> {
 
     /// A sample of the image has as many bytes as one of its color type.
     pub(crate) fn fact_type(&self)
-        ensures { self.now.size ≡ type_size C.Inner.value_type }
+        ensures { self.now.size ≡ type_size T.value_type }
     {
         let _form = &self.form;
     }

@@ -22,7 +22,8 @@ use tiff_base::error::{TiffError, TiffResult, UsageError};
 use tiff_base::io::Sink;
 use tiff_base::tags::Predictor;
 use tiff_value::encoder::color_visitor::{ColorVisitor, by_name};
-use tiff_value::encoder::colortype::{ColorType, NamedColorType};
+use tiff_value::encoder::colortype::NamedColorType;
+use tiff_value::encoder::horizontal_predictor::Sample;
 
 impl DirectoryState {
     // Sets the offset of the link that points to the directory when it ends, if there is one.
@@ -169,9 +170,9 @@ fn run_directory<W: Sink, K: TiffKind>(
 // ---- images
 
 // Runs the steps of an open image, and ends it. `steps` has room for their replies.
-fn run_image_steps<W: Sink, K: TiffKind, C: ColorType>(
+fn run_image_steps<W: Sink, K: TiffKind, T: Sample>(
     encoder: &mut TiffEncoder<W, K>,
-    state: ImageState<C>,
+    state: ImageState<T>,
     job: &ImageJob<'_>,
     mut steps: Vec<TiffResult<StepReply>>,
 ) -> JobReply

@@ -19,7 +19,7 @@ use tiff_base::error::TiffResult;
 use tiff_base::io::Sink;
 use tiff_base::tags::{Tag, Type};
 use tiff_value::buffer::ValueBuffer;
-use tiff_value::encoder::colortype::ColorType;
+use tiff_value::encoder::horizontal_predictor::Sample;
 use tiff_value::encoder::tiff_value::TiffValue;
 
 /// An open directory in the file of an encoder, alone or with an image. It ends by `finish`,
@@ -363,7 +363,7 @@ impl<'a, W: Sink, K: TiffKind> DirectoryEncoder<'a, W, K, DirectoryState> {
     }
 }
 
-impl<'a, W: Sink, K: TiffKind, C: ColorType> DirectoryEncoder<'a, W, K, ImageState<C>> {
+impl<'a, W: Sink, K: TiffKind, T: Sample> DirectoryEncoder<'a, W, K, ImageState<T>> {
     /// Names a finished directory as the parent: when the image ends, the link of that directory
     /// points to the directory of this image, and the last link of the IFD chain doesn't. The call
     /// writes nothing.
@@ -379,16 +379,16 @@ impl<'a, W: Sink, K: TiffKind, C: ColorType> DirectoryEncoder<'a, W, K, ImageSta
 
     /// Appends the bytes of a value and returns their offset, as `write_data` of a directory does.
     /// `write_data` of an image writes samples. Errors: those of `write_data` of a directory.
-    pub fn append_data<T: TiffValue>(&mut self, value: T) -> TiffResult<u64>
+    pub fn append_data<V: TiffValue>(&mut self, value: V) -> TiffResult<u64>
         ensures same_reference { self.new.encoder.ghost_name ≡ self.old.encoder.ghost_name }
         ensures stays { self.new.state ≡ self.old.state }
-        ensures answer { Ends (λ offset. offset) (calls.write_data (T.field_data value) self.old.encoder.now)
+        ensures answer { Ends (λ offset. offset) (calls.write_data (V.field_data value) self.old.encoder.now)
             result
             self.old.encoder.now self.new.encoder.now }
 
         // Everything that the file contained before the call is still in it.
         ensures leaves { (m : Model) → FileContains self.old.encoder.now.kind self.old.encoder.now.bytes m
-            → Leaves (calls.write_data (T.field_data value) self.old.encoder.now) result
+            → Leaves (calls.write_data (V.field_data value) self.old.encoder.now) result
             self.old.encoder.now self.new.encoder.now m }
     {
         self.encoder.append_value(&value)

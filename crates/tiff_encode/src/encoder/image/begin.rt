@@ -5,7 +5,6 @@ ghost use Rattle.tiff_base.specs.Types.{type_size};
 ghost use Rattle.tiff_value.specs.ColorType.{columns_of};
 ghost use Rattle.tiff_encode.specs.Calls as calls;
 ghost use Rattle.tiff_encode.specs.Calls.{default_rows, image_in, new_directory};
-ghost use Rattle.tiff_encode.specs.Causes as causes;
 ghost use Rattle.tiff_encode.specs.Causes.{image_cause, is_past, new_image_cause};
 ghost use Rattle.tiff_encode.specs.Ends.{Ends};
 ghost use Rattle.tiff_encode.specs.Machine.{compression_method};
@@ -17,7 +16,8 @@ use crate::encoder::TiffEncoder;
 use crate::encoder::directory::state::DirectoryState;
 use crate::encoder::directory::tags::TagValue;
 use crate::encoder::image::chunk_scratch::ChunkScratch;
-use crate::encoder::image::state::{ChunkLayout, ImageState, first_bits, is_packed};
+use crate::encoder::image::color::ImageColor;
+use crate::encoder::image::state::{ChunkLayout, ImageState};
 use crate::encoder::kind::TiffKind;
 use crate::encoder::settings::Compression;
 use std::alloc::{AllocError, Global};
@@ -28,18 +28,11 @@ use tiff_base::error::{TiffError, TiffFormatError, TiffResult, UsageError};
 use tiff_base::io::Sink;
 use tiff_base::tags::{
     CompressionMethod, FileKind, PhotometricInterpretation, PlanarConfiguration, Predictor,
-    ResolutionUnit, SampleFormat, Tag,
+    ResolutionUnit, Tag,
 };
 use tiff_value::encoder::colortype::ColorType;
+use tiff_value::encoder::horizontal_predictor::Sample;
 use tiff_value::encoder::tiff_value::TiffValue;
-
-// Returns whether differences of these samples, taken as integers, have no meaning: the first
-// sample format is IEEE floating point or undefined.
-fn is_not_whole(formats: &[SampleFormat]) -> bool
-    ensures { result ≡ causes.is_not_whole formats.now }
-{
-    matches!(formats, [SampleFormat::IEEEFP | SampleFormat::Void, ..])
-}
 
 // Returns whether the offset of the second resolution, after padding, exceeds what the kind of file
 // can hold.
@@ -52,14 +45,6 @@ fn is_past_resolutions(kind: FileKind, end: u64) -> bool
         FileKind::Classic => end > limit || end + (4 - end % 4) % 4 + 8 > limit,
         FileKind::Big => false,
     }
-}
-
-// Returns whether a color type has no predictor: its samples aren't integers, or several are in a
-// byte.
-fn is_unpredicted<C: ColorType>() -> bool
-    ensures { result ≡ causes.is_unpredicted C.described }
-{
-    is_packed::<C>() || is_not_whole(C::sample_formats())
 }
 
 /// Returns the first error of `new_image` that applies, except that of an earlier failed write.
@@ -108,10 +93,7 @@ pub fn columns<C: ColorType>(width: u32) -> u32
     ensures count { result ≡ columns_of C.described width }
     ensures some { 0 < width → 0 < result }
 {
-    if !is_packed::<C>() {
-        return width;
-    }
-    (u64::from(width) * u64::from(first_bits::<C>())).div_ceil(8) as u32
+    ImageColor::of::<C>().columns(width)
 }
 
 // Returns the number of rows of a strip by default. `row_bytes` is the number of bytes of a row.
@@ -130,18 +112,18 @@ fn rows_of_strip(compression: Compression, row_bytes: u64) -> u32
 impl<W: Sink, K: TiffKind> TiffEncoder<W, K> {
     // Returns the first error of `new_image` that applies before a byte is written.
     #[tactic(auto, unfolding(crate::specs::Causes::new_image_cause))]
-    fn check_new_image<C: ColorType>(&self, width: u32, height: u32) -> TiffResult<()>
+    fn check_new_image(&self, color: &ImageColor, width: u32, height: u32) -> TiffResult<()>
         ensures { MatchResult result
             (λ _. (self.now.fault ≡ None) × (0 < width) × (0 < height)
-            × (new_image_cause self.now C.described width height ≡ None))
-            (λ e. new_image_cause self.now C.described width height ≡ Some e) }
+            × (new_image_cause self.now color.now width height ≡ None))
+            (λ e. new_image_cause self.now color.now width height ≡ Some e) }
     {
         let end = self.end()?;
         check_image(
             self.file_kind(),
             end,
             self.predictor,
-            is_unpredicted::<C>(),
+            color.is_unpredicted(),
             (width, height),
         )?;
         Ok(())
@@ -149,14 +131,14 @@ impl<W: Sink, K: TiffKind> TiffEncoder<W, K> {
 
     // Returns an image of a width in pixels without chunks, with a directory of the IFD chain that
     // has no fields.
-    fn new_state<C: ColorType>(&self, width: u32, height: u32) -> ImageState<C>
+    fn new_state<T: Sample>(&self, color: ImageColor, width: u32, height: u32) -> ImageState<T>
         requires sides { (0 < width) × (0 < height) }
-        ensures { result ≡ image_in self.now (new_directory (Some self.now.chain) true) C.described
-            (type_size C.Inner.value_type) width height }
+        ensures { result ≡ image_in self.now (new_directory (Some self.now.chain) true) color
+            (type_size T.value_type) width height }
     {
-        let (_kind, len) = C::Inner::type_and_len();
-        let pixel = C::sample_bits().len() as u64 * u64::from(len);
-        let columns = columns::<C>(width);
+        let (_kind, len) = T::type_and_len();
+        let pixel = u64::from(color.samples()) * u64::from(len);
+        let columns = color.columns(width);
         let rows = rows_of_strip(self.compression, u64::from(columns) * pixel);
         ImageState {
             directory: DirectoryState {
@@ -178,7 +160,8 @@ impl<W: Sink, K: TiffKind> TiffEncoder<W, K> {
             },
             chunks: Vec::new(self.alloc),
             scratch: ChunkScratch::empty(self.alloc),
-            color: PhantomData,
+            color,
+            sample: PhantomData,
         }
     }
 }
@@ -186,7 +169,7 @@ impl<W: Sink, K: TiffKind> TiffEncoder<W, K> {
 // Returns the tags of the width, the height, the compression, the predictor and the interpretation
 // of the samples.
 #[tactic(auto, unfolding(tiff_value::specs::Data::data_of))]
-fn color_tags<C: ColorType>(image: &ImageState<C>) -> [TagValue; 5]
+fn color_tags<T: Sample>(image: &ImageState<T>) -> [TagValue; 5]
     ensures { result ≡ fields_of (calls.meaning_tags image.now) }
 {
     [
@@ -194,18 +177,21 @@ fn color_tags<C: ColorType>(image: &ImageState<C>) -> [TagValue; 5]
         TagValue::long(Tag::ImageLength, image.height),
         TagValue::short(Tag::Compression, method(image.compression).to_u16()),
         TagValue::short(Tag::Predictor, image.predictor.to_u16()),
-        TagValue::short(Tag::PhotometricInterpretation, C::TIFF_VALUE.to_u16()),
+        TagValue::short(
+            Tag::PhotometricInterpretation,
+            image.color.interpretation.to_u16(),
+        ),
     ]
 }
 
 // Returns the tag that says that YCbCr samples aren't subsampled, or `None` for another color.
-fn chroma_value<C: ColorType>(image: &ImageState<C>) -> Option<TagValue>
+fn chroma_value<T: Sample>(image: &ImageState<T>) -> Option<TagValue>
     ensures { MatchOption result
         (fields_of (calls.chroma_tags image.now.color.interpretation) ≡ [])
         (λ v. fields_of (calls.chroma_tags image.now.color.interpretation) ≡ v ∷ []) }
 {
     let _form = &image.form;
-    match C::TIFF_VALUE {
+    match image.color.interpretation {
         PhotometricInterpretation::YCbCr => Some(TagValue::shorts(Tag::ChromaSubsampling, 1, 1)),
         _ => None,
     }
@@ -214,12 +200,12 @@ fn chroma_value<C: ColorType>(image: &ImageState<C>) -> Option<TagValue>
 // Returns the tags of the rows of a strip, the samples of a pixel, and a resolution of 1/1 without
 // a unit.
 #[tactic(auto, unfolding(tiff_value::specs::Data::data_of))]
-fn layout_values<C: ColorType>(image: &ImageState<C>) -> [TagValue; 5]
+fn layout_values<T: Sample>(image: &ImageState<T>) -> [TagValue; 5]
     ensures { result ≡ fields_of (calls.layout_tags image.now) }
 {
     [
         TagValue::long(Tag::RowsPerStrip, image.form.chunk_height),
-        TagValue::short(Tag::SamplesPerPixel, C::sample_bits().len() as u16),
+        TagValue::short(Tag::SamplesPerPixel, image.color.samples()),
         TagValue::rational(Tag::XResolution, 1, 1),
         TagValue::rational(Tag::YResolution, 1, 1),
         TagValue::short(Tag::ResolutionUnit, ResolutionUnit::None.to_u16()),
@@ -227,19 +213,18 @@ fn layout_values<C: ColorType>(image: &ImageState<C>) -> [TagValue; 5]
 }
 
 impl<W: Sink, K: TiffKind> TiffEncoder<W, K> {
-    // `new_image`, without the `DirectoryEncoder` around the image.
-    pub(crate) fn begin_image<C: ColorType>(
+    // `begin_image` for a color type that says this.
+    fn begin_as<T: Sample>(
         &mut self,
+        color: ImageColor,
         width: u32,
         height: u32,
-    ) -> TiffResult<ImageState<C>>
-        ensures { Ends (λ i. i)
-            (calls.new_image C.described (type_size C.Inner.value_type) width height self.old)
-            result
-            self.old self.new }
+    ) -> TiffResult<ImageState<T>>
+        ensures { Ends (λ i. i) (calls.new_image color (type_size T.value_type) width height self.old)
+            result self.old self.new }
     {
-        self.check_new_image::<C>(width, height)?;
-        let mut image = self.new_state::<C>(width, height);
+        self.check_new_image(&color, width, height)?;
+        let mut image = self.new_state::<T>(color, width, height);
         let Ok(values) = first_values(self.alloc, &image) else {
             return Err(TiffError::OutOfMemory);
         };
@@ -247,13 +232,27 @@ impl<W: Sink, K: TiffKind> TiffEncoder<W, K> {
         self.set_tags(&mut image.directory, &values)?;
         Ok(image)
     }
+
+    // `new_image`, without the `DirectoryEncoder` around the image.
+    pub(crate) fn begin_image<C: ColorType>(
+        &mut self,
+        width: u32,
+        height: u32,
+    ) -> TiffResult<ImageState<C::Inner>>
+        ensures { Ends (λ i. i)
+            (calls.new_image C.described (type_size C.Inner.value_type) width height self.old)
+            result
+            self.old self.new }
+    {
+        self.begin_as::<C::Inner>(ImageColor::of::<C>(), width, height)
+    }
 }
 
 // Returns the tags that `new_image` writes, in the order in which it writes them.
 #[tactic(auto, unfolding(crate::specs::Calls::first_tags))]
-fn first_values<C: ColorType>(
+fn first_values<T: Sample>(
     alloc: Global,
-    image: &ImageState<C>,
+    image: &ImageState<T>,
 ) -> Result<Vec<TagValue>, AllocError>
     ensures { IfOk result (λ v. v.items ≡ fields_of (calls.first_tags image.now)) }
 {

@@ -27,7 +27,6 @@ use tiff_base::color::ChunkType;
 use tiff_base::error::{TiffError, TiffResult, UsageError};
 use tiff_base::io::{IoKind, Sink};
 use tiff_base::tags::{FileKind, Predictor};
-use tiff_value::encoder::colortype::ColorType;
 use tiff_value::encoder::horizontal_predictor::Sample;
 
 // Returns the number of bytes of `count` samples. The only error is `OutOfMemory`, if `count` is
@@ -47,7 +46,7 @@ fn byte_count<T: Sample>(count: usize) -> TiffResult<usize>
     }
 }
 
-impl<C: ColorType> ImageState<C> {
+impl<T: Sample> ImageState<T> {
     // Returns the number of samples of a row of a chunk, and the number of samples of a pixel in a
     // chunk.
     fn row_and_stride(&self) -> (usize, usize)
@@ -62,15 +61,15 @@ impl<C: ColorType> ImageState<C> {
 
     // Compresses the samples of the next chunk. The only error is `OutOfMemory`, also if the number
     // of bytes exceeds `usize`: no memory holds so many samples.
-    fn pack_samples(&self, samples: &[C::Inner], scratch: &mut ChunkScratch) -> TiffResult<()>
+    fn pack_samples(&self, samples: &[T], scratch: &mut ChunkScratch) -> TiffResult<()>
         requires next { length samples.now ≡ next_chunk_sample_count self.now }
         requires packed { compression_method self.now.compression ≡ method.PackBits }
         ensures { MatchResult result
             (λ _. IsChunkStored self.now scratch.new.packed.items
-            (map (sample_number (type_size C.Inner.value_type) C.Inner.bits) samples.now))
+            (map (sample_number (type_size T.value_type) T.bits) samples.now))
             (λ e. e ≡ TiffError.OutOfMemory) }
     {
-        byte_count::<C::Inner>(samples.len())?;
+        byte_count::<T>(samples.len())?;
         let (row, stride) = self.row_and_stride();
         match self.compression {
             Compression::PackbitsRows => scratch.pack_rows(samples, self.predictor, row, stride),
@@ -80,13 +79,13 @@ impl<C: ColorType> ImageState<C> {
 
     // Returns the bytes to store for the samples of the next chunk, without a copy. Returns `None`
     // unless the samples have 8 bits and are neither compressed nor stored as differences.
-    fn lent_bytes<'a>(&self, samples: &'a [C::Inner]) -> Option<&'a [u8]>
+    fn lent_bytes<'a>(&self, samples: &'a [T]) -> Option<&'a [u8]>
         ensures { IfSome result (λ b. IsChunkStored self.now b.now
-            (map (sample_number (type_size C.Inner.value_type) C.Inner.bits) samples.now)) }
+            (map (sample_number (type_size T.value_type) T.bits) samples.now)) }
     {
         match self.compression {
             Compression::Uncompressed => match self.predictor {
-                Predictor::None => C::Inner::as_bytes(samples),
+                Predictor::None => T::as_bytes(samples),
                 _ => None,
             },
             Compression::Packbits | Compression::PackbitsRows => None,
@@ -116,9 +115,9 @@ impl<W: Sink, K: TiffKind> TiffEncoder<W, K> {
     // end of the file. Returns the end of the file, or the first error of `write_chunk` that
     // applies.
     #[tactic(auto, unfolding(crate::specs::Causes::write_chunk_cause))]
-    fn chunk_offset<C: ColorType>(
+    fn chunk_offset<T: Sample>(
         &self,
-        image: &ImageState<C>,
+        image: &ImageState<T>,
         count: usize,
         stored: usize,
     ) -> TiffResult<u64>
@@ -136,9 +135,9 @@ impl<W: Sink, K: TiffKind> TiffEncoder<W, K> {
     }
 
     /// Appends a chunk of `count` samples, which is stored as the bytes `stored`.
-    pub(crate) fn append_chunk<C: ColorType>(
+    pub(crate) fn append_chunk<T: Sample>(
         &mut self,
-        image: &mut ImageState<C>,
+        image: &mut ImageState<T>,
         count: usize,
         stored: &[u8],
     ) -> TiffResult<()>
@@ -160,18 +159,18 @@ impl<W: Sink, K: TiffKind> TiffEncoder<W, K> {
 
     // Appends the next chunk of an image that isn't compressed. It converts the samples to bytes
     // while it writes them to the sink.
-    fn append_samples<C: ColorType>(
+    fn append_samples<T: Sample>(
         &mut self,
-        image: &mut ImageState<C>,
-        samples: &[C::Inner],
+        image: &mut ImageState<T>,
+        samples: &[T],
     ) -> TiffResult<()>
         requires { length samples.now ≡ next_chunk_sample_count image.old }
         ensures { AppendsChunk
             (calls.write_chunk image.old (length samples.now) (stored.unpacked_chunk image.old
-            (map (sample_number (type_size C.Inner.value_type) C.Inner.bits) samples.now)) self.old)
+            (map (sample_number (type_size T.value_type) T.bits) samples.now)) self.old)
             image.old result self.old self.new image.new }
     {
-        let bytes = byte_count::<C::Inner>(samples.len())?;
+        let bytes = byte_count::<T>(samples.len())?;
         let (row, stride) = image.row_and_stride();
         let predictor = image.predictor;
         let offset = self.chunk_offset(image, samples.len(), bytes)?;
@@ -187,16 +186,16 @@ impl<W: Sink, K: TiffKind> TiffEncoder<W, K> {
     }
 
     // Appends the next chunk of an image that is compressed, with the given buffers.
-    fn append_packed<C: ColorType>(
+    fn append_packed<T: Sample>(
         &mut self,
-        image: &mut ImageState<C>,
-        samples: &[C::Inner],
+        image: &mut ImageState<T>,
+        samples: &[T],
         scratch: &mut ChunkScratch,
     ) -> TiffResult<()>
         requires next { length samples.now ≡ next_chunk_sample_count image.old }
         requires packed { compression_method image.old.compression ≡ method.PackBits }
         ensures { StoresChunk calls.write_chunk image.old
-            (map (sample_number (type_size C.Inner.value_type) C.Inner.bits)
+            (map (sample_number (type_size T.value_type) T.bits)
             samples.now) result self.old self.new image.new }
     {
         image.pack_samples(samples, scratch)?;
@@ -205,15 +204,11 @@ impl<W: Sink, K: TiffKind> TiffEncoder<W, K> {
 
     // Appends the next chunk of an image that is compressed, with the image's own buffers. The
     // image has its buffers again after the call.
-    fn put_packed<C: ColorType>(
-        &mut self,
-        image: &mut ImageState<C>,
-        samples: &[C::Inner],
-    ) -> TiffResult<()>
+    fn put_packed<T: Sample>(&mut self, image: &mut ImageState<T>, samples: &[T]) -> TiffResult<()>
         requires next { length samples.now ≡ next_chunk_sample_count image.old }
         requires packed { compression_method image.old.compression ≡ method.PackBits }
         ensures { StoresChunk calls.write_chunk image.old
-            (map (sample_number (type_size C.Inner.value_type) C.Inner.bits)
+            (map (sample_number (type_size T.value_type) T.bits)
             samples.now) result self.old self.new image.new }
     {
         // Taken out, since `append_packed` borrows the image beside them.
@@ -226,14 +221,14 @@ impl<W: Sink, K: TiffKind> TiffEncoder<W, K> {
     /// Appends the next chunk. `samples` has as many samples as this chunk. If the image isn't
     /// compressed, no list of bytes is allocated: samples of 8 bits that are stored as they are go
     /// to the sink directly. If it is compressed, the buffers of the previous chunk are used again.
-    pub(crate) fn put_chunk<C: ColorType>(
+    pub(crate) fn put_chunk<T: Sample>(
         &mut self,
-        image: &mut ImageState<C>,
-        samples: &[C::Inner],
+        image: &mut ImageState<T>,
+        samples: &[T],
     ) -> TiffResult<()>
         requires { length samples.now ≡ next_chunk_sample_count image.old }
         ensures { StoresChunk calls.write_chunk image.old
-            (map (sample_number (type_size C.Inner.value_type) C.Inner.bits)
+            (map (sample_number (type_size T.value_type) T.bits)
             samples.now) result self.old self.new image.new }
     {
         if let Some(bytes) = image.lent_bytes(samples) {
@@ -246,32 +241,32 @@ impl<W: Sink, K: TiffKind> TiffEncoder<W, K> {
     }
 
     /// Appends the next chunk, whose samples are stored as these bytes.
-    pub(crate) fn put_bytes<C: ColorType>(
+    pub(crate) fn put_bytes<T: Sample>(
         &mut self,
-        image: &mut ImageState<C>,
+        image: &mut ImageState<T>,
         bytes: &[u8],
     ) -> TiffResult<()>
         requires stores { StoresBytes image.old }
-        requires whole { length bytes.now % type_size C.Inner.value_type ≡ 0 }
+        requires whole { length bytes.now % type_size T.value_type ≡ 0 }
         ensures { StoresChunk calls.write_chunk image.old
-            (numbers_in (type_size C.Inner.value_type) bytes.now) result self.old self.new image.new }
+            (numbers_in (type_size T.value_type) bytes.now) result self.old self.new image.new }
     {
         image.fact_type();
-        let samples = ImageSamples::<C::Inner>::Stored(bytes);
+        let samples = ImageSamples::<T>::Stored(bytes);
         self.append_chunk(image, samples.count(), bytes)
     }
 
     // Appends the next chunk. Bytes that are stored as they are go to the sink directly.
-    fn put_given<C: ColorType>(
+    fn put_given<T: Sample>(
         &mut self,
-        image: &mut ImageState<C>,
-        samples: ImageSamples<'_, C::Inner>,
+        image: &mut ImageState<T>,
+        samples: ImageSamples<'_, T>,
     ) -> TiffResult<()>
-        requires storable { IsChunkStorable (type_size C.Inner.value_type) image.old samples }
-        requires next { given_count (type_size C.Inner.value_type) samples
+        requires storable { IsChunkStorable (type_size T.value_type) image.old samples }
+        requires next { given_count (type_size T.value_type) samples
             ≡ next_chunk_sample_count image.old }
         ensures { StoresChunk calls.write_chunk image.old
-            (given_numbers (type_size C.Inner.value_type) C.Inner.bits samples.entry) result self.old
+            (given_numbers (type_size T.value_type) T.bits samples.entry) result self.old
             self.new image.new }
     {
         match samples {
@@ -282,16 +277,16 @@ impl<W: Sink, K: TiffKind> TiffEncoder<W, K> {
 
     /// `write_chunk`. It returns the errors that don't depend on the compressed bytes before it
     /// compresses the samples.
-    pub(crate) fn store_chunk<C: ColorType>(
+    pub(crate) fn store_chunk<T: Sample>(
         &mut self,
-        image: &mut ImageState<C>,
-        samples: ImageSamples<'_, C::Inner>,
+        image: &mut ImageState<T>,
+        samples: ImageSamples<'_, T>,
     ) -> TiffResult<()>
-        requires { IsChunkStorable (type_size C.Inner.value_type) image.old samples }
+        requires { IsChunkStorable (type_size T.value_type) image.old samples }
         ensures { WritesStoredChunk calls.write_chunk
             (write_chunk_cause self.old image.old
-            (given_count (type_size C.Inner.value_type) samples.entry) 0) image.old
-            (given_numbers (type_size C.Inner.value_type) C.Inner.bits samples.entry) result
+            (given_count (type_size T.value_type) samples.entry) 0) image.old
+            (given_numbers (type_size T.value_type) T.bits samples.entry) result
             self.old self.new image.new }
     {
         self.chunk_offset(image, samples.count(), 0)?;
@@ -299,14 +294,14 @@ impl<W: Sink, K: TiffKind> TiffEncoder<W, K> {
     }
 
     // `write_strip`. For an image of tiles it returns `UsageError(InvalidChunkType)`.
-    pub(crate) fn store_strip<C: ColorType>(
+    pub(crate) fn store_strip<T: Sample>(
         &mut self,
-        image: &mut ImageState<C>,
-        samples: &[C::Inner],
+        image: &mut ImageState<T>,
+        samples: &[T],
     ) -> TiffResult<()>
         ensures { WritesStoredChunk calls.write_strip
             (write_strip_cause self.old image.old (length samples.now) 0) image.old
-            (map (sample_number (type_size C.Inner.value_type) C.Inner.bits) samples.now) result
+            (map (sample_number (type_size T.value_type) T.bits) samples.now) result
             self.old self.new image.new }
     {
         self.end()?;

@@ -74,7 +74,7 @@ pub struct ChunkArea {
     pub height: u64,
 }
 
-impl<C: ColorType> ImageState<C> {
+impl<T: Sample> ImageState<T> {
     // Returns the part of the image that a chunk contains.
     #[tactic(auto, unfolding(tiff_page::specs::Rect::rect))]
     fn chunk_area(&self, chunk: u64) -> ChunkArea
@@ -100,21 +100,21 @@ impl<C: ColorType> ImageState<C> {
     // Appends the samples of one row of a part of the image.
     fn push_pixels(
         &self,
-        samples: &[C::Inner],
+        samples: &[T],
         chunk_area: ChunkArea,
         row: u64,
-        out: &mut Vec<C::Inner>,
+        out: &mut Vec<T>,
     ) -> TiffResult<()>
         requires part { IsPatch (image_page self.now) (rect_of chunk_area) }
         requires row { row < chunk_area.height }
         requires fits { image_samples self.now < 2 ^ 64 }
         requires whole { image_samples self.now ≤ length samples.now }
         ensures { MatchResult result
-            (λ _. map (sample_number (type_size C.Inner.value_type) C.Inner.bits) out.new.items
-            ≡ map (sample_number (type_size C.Inner.value_type) C.Inner.bits) out.old.items
+            (λ _. map (sample_number (type_size T.value_type) T.bits) out.new.items
+            ≡ map (sample_number (type_size T.value_type) T.bits) out.old.items
             ++ tabulate (chunk_area.width * stored_samples (image_page self.now))
             (pixel_sample (image_page self.now)
-            (map (sample_number (type_size C.Inner.value_type) C.Inner.bits) samples.now)
+            (map (sample_number (type_size T.value_type) T.bits) samples.now)
             (rect_of chunk_area) row))
             (λ e. e ≡ TiffError.OutOfMemory) }
     {
@@ -139,20 +139,20 @@ impl<C: ColorType> ImageState<C> {
     // the chunk.
     fn push_row(
         &self,
-        samples: &[C::Inner],
+        samples: &[T],
         chunk_area: ChunkArea,
         row: u64,
-        out: &mut Vec<C::Inner>,
+        out: &mut Vec<T>,
     ) -> TiffResult<()>
         requires part { IsPatch (image_page self.now) (rect_of chunk_area) }
         requires fits { image_samples self.now < 2 ^ 64 }
         requires whole { image_samples self.now ≤ length samples.now }
         ensures { MatchResult result
-            (λ _. map (sample_number (type_size C.Inner.value_type) C.Inner.bits) out.new.items
-            ≡ map (sample_number (type_size C.Inner.value_type) C.Inner.bits) out.old.items
+            (λ _. map (sample_number (type_size T.value_type) T.bits) out.new.items
+            ≡ map (sample_number (type_size T.value_type) T.bits) out.old.items
             ++ tabulate (row_samples (image_page self.now))
             (row_sample (image_page self.now)
-            (map (sample_number (type_size C.Inner.value_type) C.Inner.bits) samples.now)
+            (map (sample_number (type_size T.value_type) T.bits) samples.now)
             (rect_of chunk_area) row))
             (λ e. e ≡ TiffError.OutOfMemory) }
     {
@@ -167,14 +167,14 @@ impl<C: ColorType> ImageState<C> {
 
     // Returns the samples of a chunk out of all samples of the image, with zeros beyond the edges
     // of the image.
-    fn cut_out(&self, alloc: Global, samples: &[C::Inner], chunk: u64) -> TiffResult<Vec<C::Inner>>
+    fn cut_out(&self, alloc: Global, samples: &[T], chunk: u64) -> TiffResult<Vec<T>>
         requires one { chunk < all_chunks (image_page self.now) }
         requires fits { image_samples self.now < 2 ^ 64 }
         requires whole { image_samples self.now ≤ length samples.now }
         ensures { MatchResult result
-            (λ v. map (sample_number (type_size C.Inner.value_type) C.Inner.bits) v.items
+            (λ v. map (sample_number (type_size T.value_type) T.bits) v.items
             ≡ chunks.cut_out (image_page self.now)
-            (map (sample_number (type_size C.Inner.value_type) C.Inner.bits) samples.now) chunk)
+            (map (sample_number (type_size T.value_type) T.bits) samples.now) chunk)
             (λ e. e ≡ TiffError.OutOfMemory) }
     {
         let chunk_area = self.chunk_area(chunk);
@@ -213,7 +213,7 @@ impl<C: ColorType> ImageState<C> {
 
     // Returns the samples of the next strip out of samples in row order, after `written` strips of
     // them were written.
-    fn slice_out<'a>(&self, samples: &'a [C::Inner], written: u64) -> &'a [C::Inner]
+    fn slice_out<'a>(&self, samples: &'a [T], written: u64) -> &'a [T]
         requires order { is_in_order self.now.form ≡ true }
         requires left { is_left self.now ≡ true }
         requires known { written ≤ length self.now.chunks }
@@ -233,13 +233,13 @@ impl<C: ColorType> ImageState<C> {
         requires left { is_left self.now ≡ true }
         requires known { written ≤ length self.now.chunks }
         requires fits { image_samples self.now < 2 ^ 64 }
-        requires whole { image_samples self.now * type_size C.Inner.value_type ≤ length bytes.now }
-        ensures part { numbers_in (type_size C.Inner.value_type) result.now
-            ≡ next_slice self.now (numbers_in (type_size C.Inner.value_type) bytes.now) written }
+        requires whole { image_samples self.now * type_size T.value_type ≤ length bytes.now }
+        ensures part { numbers_in (type_size T.value_type) result.now
+            ≡ next_slice self.now (numbers_in (type_size T.value_type) bytes.now) written }
         ensures count { length result.now ≡ next_chunk_sample_count self.now
-            * type_size C.Inner.value_type }
+            * type_size T.value_type }
     {
-        let (_kind, len) = C::Inner::type_and_len();
+        let (_kind, len) = T::type_and_len();
         let size = usize::from(len);
         let (start, end) = self.next_range(written);
         &bytes[start as usize * size..end as usize * size]
@@ -248,10 +248,10 @@ impl<C: ColorType> ImageState<C> {
 
 impl<W: Sink, K: TiffKind> TiffEncoder<W, K> {
     // Writes the next chunk out of all samples, after `written` chunks of them were written.
-    fn write_typed<C: ColorType>(
+    fn write_typed<T: Sample>(
         &mut self,
-        image: &mut ImageState<C>,
-        samples: &[C::Inner],
+        image: &mut ImageState<T>,
+        samples: &[T],
         written: u64,
     ) -> TiffResult<()>
         requires left { is_left image.old ≡ true }
@@ -259,7 +259,7 @@ impl<W: Sink, K: TiffKind> TiffEncoder<W, K> {
         requires fits { image_samples image.old < 2 ^ 64 }
         requires whole { image_samples image.old ≤ length samples.now }
         ensures { WritesPart image.old
-            (next_part image.old (map (sample_number (type_size C.Inner.value_type) C.Inner.bits)
+            (next_part image.old (map (sample_number (type_size T.value_type) T.bits)
             samples.now) written) result self.old self.new image.new }
     {
         if image.is_in_order() {
@@ -276,9 +276,9 @@ impl<W: Sink, K: TiffKind> TiffEncoder<W, K> {
 
     // Writes the next strip out of the bytes of all samples, after `written` strips of them were
     // written.
-    fn write_stored<C: ColorType>(
+    fn write_stored<T: Sample>(
         &mut self,
-        image: &mut ImageState<C>,
+        image: &mut ImageState<T>,
         bytes: &[u8],
         written: u64,
     ) -> TiffResult<()>
@@ -286,9 +286,9 @@ impl<W: Sink, K: TiffKind> TiffEncoder<W, K> {
         requires left { is_left image.old ≡ true }
         requires known { written ≤ length image.old.chunks }
         requires fits { image_samples image.old < 2 ^ 64 }
-        requires whole { image_samples image.old * type_size C.Inner.value_type ≤ length bytes.now }
+        requires whole { image_samples image.old * type_size T.value_type ≤ length bytes.now }
         ensures { WritesPart image.old
-            (next_part image.old (numbers_in (type_size C.Inner.value_type) bytes.now) written)
+            (next_part image.old (numbers_in (type_size T.value_type) bytes.now) written)
             result self.old self.new image.new }
     {
         let part = image.bytes_out(bytes, written);
@@ -297,21 +297,21 @@ impl<W: Sink, K: TiffKind> TiffEncoder<W, K> {
 
     // Writes the next chunk out of all samples, after `written` chunks of them were written. Bytes
     // that are stored as they are go to the sink directly.
-    fn write_part<C: ColorType>(
+    fn write_part<T: Sample>(
         &mut self,
-        image: &mut ImageState<C>,
-        samples: ImageSamples<'_, C::Inner>,
+        image: &mut ImageState<T>,
+        samples: ImageSamples<'_, T>,
         written: u64,
     ) -> TiffResult<()>
-        requires storable { AreStorable (type_size C.Inner.value_type) image.old samples }
+        requires storable { AreStorable (type_size T.value_type) image.old samples }
         requires left { is_left image.old ≡ true }
         requires known { written ≤ length image.old.chunks }
         requires fits { image_samples image.old < 2 ^ 64 }
         requires whole { image_samples image.old ≤ length
-            (given_numbers (type_size C.Inner.value_type) C.Inner.bits samples) }
+            (given_numbers (type_size T.value_type) T.bits samples) }
         ensures { WritesPart image.old
             (next_part image.old
-            (given_numbers (type_size C.Inner.value_type) C.Inner.bits samples.entry) written)
+            (given_numbers (type_size T.value_type) T.bits samples.entry) written)
             result self.old self.new image.new }
     {
         match samples {
@@ -322,16 +322,16 @@ impl<W: Sink, K: TiffKind> TiffEncoder<W, K> {
 
     // Writes the chunks that are left, one after another. After an error the chunks before the one
     // that failed are in the file.
-    fn write_chunks_left<C: ColorType>(
+    fn write_chunks_left<T: Sample>(
         &mut self,
-        image: &mut ImageState<C>,
-        samples: ImageSamples<'_, C::Inner>,
+        image: &mut ImageState<T>,
+        samples: ImageSamples<'_, T>,
     ) -> TiffResult<()>
-        requires storable { AreStorable (type_size C.Inner.value_type) image.old samples }
+        requires storable { AreStorable (type_size T.value_type) image.old samples }
         requires uncaused { write_image_data_cause self.old image.old (length
-            (given_numbers (type_size C.Inner.value_type) C.Inner.bits samples)) ≡ None }
+            (given_numbers (type_size T.value_type) T.bits samples)) ≡ None }
         ensures { WritesChunks image.old (parts_left image.old
-            (given_numbers (type_size C.Inner.value_type) C.Inner.bits samples.entry)) result
+            (given_numbers (type_size T.value_type) T.bits samples.entry)) result
             self.old self.new image.new }
     {
         for written in 0..image.chunks_left() {
@@ -341,10 +341,10 @@ impl<W: Sink, K: TiffKind> TiffEncoder<W, K> {
     }
 
     // Makes room in the sink for the data of an image that isn't compressed, before its first chunk.
-    fn reserve_data<C: ColorType>(&mut self, image: &ImageState<C>)
+    fn reserve_data<T: Sample>(&mut self, image: &ImageState<T>)
         ensures { self.new ≡ self.old }
     {
-        let (_kind, len) = C::Inner::type_and_len();
+        let (_kind, len) = T::type_and_len();
         let Some(samples) = image.image_samples() else {
             return;
         };
@@ -356,7 +356,7 @@ impl<W: Sink, K: TiffKind> TiffEncoder<W, K> {
     // Returns the first error of `write_data` of an image that applies to this number of samples,
     // before a chunk is written.
     #[tactic(auto, unfolding(crate::specs::Causes::write_image_data_cause))]
-    fn check_data<C: ColorType>(&self, image: &ImageState<C>, count: usize) -> TiffResult<()>
+    fn check_data<T: Sample>(&self, image: &ImageState<T>, count: usize) -> TiffResult<()>
         ensures { MatchResult result
             (λ _. write_image_data_cause self.now image.now count ≡ None)
             (λ e. write_image_data_cause self.now image.now count ≡ Some e) }
@@ -379,14 +379,14 @@ impl<W: Sink, K: TiffKind> TiffEncoder<W, K> {
 
     // `write_data` of an image: writes the chunks that are left, and then ends the image. After an
     // error the image must not be used.
-    pub(crate) fn write_image_data<C: ColorType>(
+    pub(crate) fn write_image_data<T: Sample>(
         &mut self,
-        image: &mut ImageState<C>,
-        samples: ImageSamples<'_, C::Inner>,
+        image: &mut ImageState<T>,
+        samples: ImageSamples<'_, T>,
     ) -> TiffResult<()>
-        requires { AreStorable (type_size C.Inner.value_type) image.old samples }
+        requires { AreStorable (type_size T.value_type) image.old samples }
         ensures { WritesImageData image.old
-            (given_numbers (type_size C.Inner.value_type) C.Inner.bits samples.entry) result
+            (given_numbers (type_size T.value_type) T.bits samples.entry) result
             self.old self.new }
     {
         self.check_data(image, samples.count())?;

@@ -22,6 +22,7 @@ use crate::encoder::kind::{TiffKind, TiffKindStandard};
 use tiff_base::error::TiffResult;
 use tiff_base::io::Sink;
 use tiff_value::encoder::colortype::ColorType;
+use tiff_value::encoder::horizontal_predictor::Sample;
 use tiff_value::encoder::tiff_value::TiffScalar;
 
 /// An open image in the file of an encoder, with its directory. It has the calls of the directory
@@ -29,7 +30,12 @@ use tiff_value::encoder::tiff_value::TiffScalar;
 /// another way. After a write to the sink fails, each later call that writes returns
 /// `UsageError(WriterFailed)`. After any other refusal of a call, the file and the open image are
 /// as they were before the call.
-pub type ImageEncoder<'a, W, C, K = TiffKindStandard> = DirectoryEncoder<'a, W, K, ImageState<C>>;
+pub type ImageEncoder<'a, W, C, K = TiffKindStandard> = DirectoryEncoder<
+    'a,
+    W,
+    K,
+    ImageState<<C as ColorType>::Inner>,
+>;
 
 impl<W: Sink, K: TiffKind> TiffEncoder<W, K> {
     ghost use Rattle.std.specs.Borrow.{sem};
@@ -107,7 +113,7 @@ impl<W: Sink, K: TiffKind> TiffEncoder<W, K> {
     }
 }
 
-impl<'a, W: Sink, K: TiffKind, C: ColorType> DirectoryEncoder<'a, W, K, ImageState<C>> {
+impl<'a, W: Sink, K: TiffKind, T: Sample> DirectoryEncoder<'a, W, K, ImageState<T>> {
     /// Returns the image itself, which has the calls of its directory.
     pub fn encoder(&mut self) -> &mut Self
         ensures same { result.ghost_name ≡ self.entry.ghost_name }
@@ -142,18 +148,18 @@ impl<'a, W: Sink, K: TiffKind, C: ColorType> DirectoryEncoder<'a, W, K, ImageSta
     /// file the offset or the number of bytes of the chunk exceeds 4 bytes. Otherwise `OutOfMemory`
     /// if an allocation fails, or the error of the sink, `IoError(Device)` or `OutOfMemory`. After
     /// an error this chunk is still the next one.
-    pub fn write_chunk(&mut self, samples: &[C::Inner]) -> TiffResult<()>
+    pub fn write_chunk(&mut self, samples: &[T]) -> TiffResult<()>
         ensures same_reference { self.new.encoder.ghost_name ≡ self.old.encoder.ghost_name }
         ensures answer { WritesStoredChunk calls.write_chunk
             (write_chunk_cause self.old.encoder.now self.old.state
             (length samples.now) 0) self.old.state
-            (map (sample_number (type_size C.Inner.value_type) C.Inner.bits) samples.now)
+            (map (sample_number (type_size T.value_type) T.bits) samples.now)
             result self.old.encoder.now self.new.encoder.now self.new.state }
 
         // Everything that the file contained before the call is still in it.
         ensures leaves { (m : Model) → FileContains self.old.encoder.now.kind self.old.encoder.now.bytes m
             → LeavesChunk calls.write_chunk self.old.state
-            (map (sample_number (type_size C.Inner.value_type) C.Inner.bits) samples.now) result
+            (map (sample_number (type_size T.value_type) T.bits) samples.now) result
             self.old.encoder.now self.new.encoder.now self.new.state m }
     {
         self.write_given_chunk(ImageSamples::Typed(samples))
@@ -161,22 +167,19 @@ impl<'a, W: Sink, K: TiffKind, C: ColorType> DirectoryEncoder<'a, W, K, ImageSta
 
     /// `write_chunk` of samples in the number type of the color type, or of bytes that are stored as
     /// they are.
-    pub(crate) fn write_given_chunk(
-        &mut self,
-        samples: ImageSamples<'_, C::Inner>,
-    ) -> TiffResult<()>
-        requires { IsChunkStorable (type_size C.Inner.value_type) self.old.state samples }
+    pub(crate) fn write_given_chunk(&mut self, samples: ImageSamples<'_, T>) -> TiffResult<()>
+        requires { IsChunkStorable (type_size T.value_type) self.old.state samples }
         ensures same_reference { self.new.encoder.ghost_name ≡ self.old.encoder.ghost_name }
         ensures answer { WritesStoredChunk calls.write_chunk
             (write_chunk_cause self.old.encoder.now self.old.state
-            (given_count (type_size C.Inner.value_type) samples.entry) 0) self.old.state
-            (given_numbers (type_size C.Inner.value_type) C.Inner.bits samples.entry)
+            (given_count (type_size T.value_type) samples.entry) 0) self.old.state
+            (given_numbers (type_size T.value_type) T.bits samples.entry)
             result self.old.encoder.now self.new.encoder.now self.new.state }
 
         // What `write_chunk` leaves in the file.
         ensures leaves { (m : Model) → FileContains self.old.encoder.now.kind self.old.encoder.now.bytes m
             → LeavesChunk calls.write_chunk self.old.state
-            (given_numbers (type_size C.Inner.value_type) C.Inner.bits samples.entry) result
+            (given_numbers (type_size T.value_type) T.bits samples.entry) result
             self.old.encoder.now self.new.encoder.now self.new.state m }
     {
         self.state.fact_fits();
@@ -188,18 +191,18 @@ impl<'a, W: Sink, K: TiffKind, C: ColorType> DirectoryEncoder<'a, W, K, ImageSta
     /// Writes the next strip, as `write_chunk` does. Errors: those of `write_chunk`, and for an
     /// image of tiles `UsageError(InvalidChunkType(Strip, Tile))`, which comes after
     /// `UsageError(WriterFailed)` and before all others.
-    pub fn write_strip(&mut self, samples: &[C::Inner]) -> TiffResult<()>
+    pub fn write_strip(&mut self, samples: &[T]) -> TiffResult<()>
         ensures same_reference { self.new.encoder.ghost_name ≡ self.old.encoder.ghost_name }
         ensures answer { WritesStoredChunk calls.write_strip
             (write_strip_cause self.old.encoder.now self.old.state
             (length samples.now) 0) self.old.state
-            (map (sample_number (type_size C.Inner.value_type) C.Inner.bits) samples.now)
+            (map (sample_number (type_size T.value_type) T.bits) samples.now)
             result self.old.encoder.now self.new.encoder.now self.new.state }
 
         // Everything that the file contained before the call is still in it.
         ensures leaves { (m : Model) → FileContains self.old.encoder.now.kind self.old.encoder.now.bytes m
             → LeavesChunk calls.write_strip self.old.state
-            (map (sample_number (type_size C.Inner.value_type) C.Inner.bits) samples.now) result
+            (map (sample_number (type_size T.value_type) T.bits) samples.now) result
             self.old.encoder.now self.new.encoder.now self.new.state m }
     {
         self.state.fact_fits();
@@ -295,9 +298,9 @@ impl<'a, W: Sink, K: TiffKind, C: ColorType> DirectoryEncoder<'a, W, K, ImageSta
     /// bytes can count. Then, chunk by chunk, the errors of `write_chunk`, and after them those of
     /// `finish`. After an error the image has no directory, the bytes that the call appended stay
     /// in the file, unused, and the next image can begin.
-    pub fn write_data(self, samples: &[C::Inner]) -> TiffResult<()>
+    pub fn write_data(self, samples: &[T]) -> TiffResult<()>
         ensures answer { WritesImageData self.entry.state
-            (map (sample_number (type_size C.Inner.value_type) C.Inner.bits)
+            (map (sample_number (type_size T.value_type) T.bits)
             samples.now) result self.entry.encoder.now self.exit.0.now }
 
         // Everything that the file contained before the call is still in it, and the page shows the
@@ -307,7 +310,7 @@ impl<'a, W: Sink, K: TiffKind, C: ColorType> DirectoryEncoder<'a, W, K, ImageSta
             → ((offset : ℕ) → self.entry.state.directory.parent ≡ Some offset
             → IsLink self.entry.encoder.now.kind m offset)
             → LeavesData self.entry.state
-            (map (sample_number (type_size C.Inner.value_type) C.Inner.bits) samples.now) result
+            (map (sample_number (type_size T.value_type) T.bits) samples.now) result
             self.entry.encoder.now self.exit.0.now m }
 
         // The file is shorter than 2^64 bytes.
@@ -318,10 +321,10 @@ impl<'a, W: Sink, K: TiffKind, C: ColorType> DirectoryEncoder<'a, W, K, ImageSta
 
     /// `write_data` of samples in the number type of the color type, or of bytes that are stored as
     /// they are.
-    pub(crate) fn write_given(self, samples: ImageSamples<'_, C::Inner>) -> TiffResult<()>
-        requires { AreStorable (type_size C.Inner.value_type) self.state samples }
+    pub(crate) fn write_given(self, samples: ImageSamples<'_, T>) -> TiffResult<()>
+        requires { AreStorable (type_size T.value_type) self.state samples }
         ensures answer { WritesImageData self.entry.state
-            (given_numbers (type_size C.Inner.value_type) C.Inner.bits samples.entry) result
+            (given_numbers (type_size T.value_type) T.bits samples.entry) result
             self.entry.encoder.now self.exit.0.now }
 
         // What `write_data` leaves in the file.
@@ -330,7 +333,7 @@ impl<'a, W: Sink, K: TiffKind, C: ColorType> DirectoryEncoder<'a, W, K, ImageSta
             → ((offset : ℕ) → self.entry.state.directory.parent ≡ Some offset
             → IsLink self.entry.encoder.now.kind m offset)
             → LeavesData self.entry.state
-            (given_numbers (type_size C.Inner.value_type) C.Inner.bits samples.entry) result
+            (given_numbers (type_size T.value_type) T.bits samples.entry) result
             self.entry.encoder.now self.exit.0.now m }
 
         // The file is shorter than 2^64 bytes.

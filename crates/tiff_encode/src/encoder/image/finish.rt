@@ -1,6 +1,6 @@
 //! Ends images.
 
-ghost use Rattle.std.specs.Prelude.{◌≡◌, ◌+◌, ◌^◌, ◌<◌, ◌++◌, length, map, replicate, MatchResult, Ok};
+ghost use Rattle.std.specs.Prelude.{◌≡◌, ◌+◌, ◌^◌, ◌<◌, ◌++◌, length, map, MatchResult, Ok};
 ghost use Rattle.std.specs.Io.{StartsWith};
 ghost use Rattle.std.specs.List.{flat_map};
 ghost use Rattle.tiff_base.specs.Number.{le};
@@ -8,121 +8,23 @@ ghost use Rattle.tiff_base.specs.Types.{type_size};
 ghost use Rattle.tiff_value.specs.Data.{data_of};
 ghost use Rattle.tiff_encode.specs.Calls as calls;
 ghost use Rattle.tiff_encode.specs.Ends.{Ends};
-ghost use Rattle.tiff_encode.specs.LastTags.{bits_tags, list_tags, list_tags_of, more_of, number_of_part, samples_tags};
+ghost use Rattle.tiff_encode.specs.LastTags.{bits_tags, list_tags, list_tags_of, number_of_part, samples_tags};
 ghost use Rattle.tiff_encode.specs.Tagging.{fields_of, write_fields};
 ghost use Rattle.tiff_encode.specs.Value.{offset_values};
 ghost use Rattle.tiff_encode.specs.FileBytes.{offset_len};
 
 use crate::encoder::TiffEncoder;
 use crate::encoder::directory::state::DirectoryState;
+use crate::encoder::image::color::ImageColor;
 use crate::encoder::image::state::{Chunk, ImageState};
 use crate::encoder::kind::{DirectoryOffset, TiffKind};
-use std::marker::{Model, PhantomData};
+use std::marker::PhantomData;
 use tiff_base::color::ChunkType;
 use tiff_base::error::{TiffError, TiffResult};
 use tiff_base::io::Sink;
-use tiff_base::tags::{FileKind, SampleFormat, Tag, Type};
-use tiff_value::encoder::colortype::ColorType;
-use tiff_value::encoder::tiff_value::{TiffScalar, TiffValue};
-
-// ---- a list with copies of its first item at the end
-
-// Appends the bytes of an item `count` times.
-fn push_copies<T: TiffScalar>(item: &T, count: usize, out: &mut Vec<u8>) -> TiffResult<()>
-    ensures answer { MatchResult result
-        (λ _. out.new.items ≡ out.old.items ++ flat_map T.spelled (replicate count item.now))
-        (λ e. e ≡ TiffError.OutOfMemory) }
-    ensures front { StartsWith out.new.items out.old.items }
-{
-    for _ in 0..count {
-        item.push_to(out)?;
-    }
-    Ok(())
-}
-
-// Appends the bytes of the first item of a list `count` times. It appends nothing for an empty
-// list.
-fn push_first<T: TiffScalar>(items: &[T], count: usize, out: &mut Vec<u8>) -> TiffResult<()>
-    ensures answer { MatchResult result
-        (λ _. out.new.items ≡ out.old.items ++ flat_map T.spelled (more_of items.now count))
-        (λ e. e ≡ TiffError.OutOfMemory) }
-    ensures front { StartsWith out.new.items out.old.items }
-{
-    match items {
-        [] => Ok(()),
-        [first, ..] => push_copies(first, count, out),
-    }
-}
-
-/// A list of values, followed by `more` copies of its first value.
-#[derive(Drop)]
-pub(crate) struct RepeatFirst<'a, T> {
-    items: &'a [T],
-    more: usize,
-}
-
-impl<'a, T> Model for RepeatFirst<'a, T> {
-    ghost use Rattle.std.specs.Prelude.{List, ◌+◌, ◌^◌, ◌<◌, length};
-    ghost use Rattle.tiff_encode.specs.Calls.{extended_by_first};
-
-    ghost Value = { List T };
-
-    ghost view = { λ r. extended_by_first r.items.now r.more };
-
-    ghost invariant = { λ r. length r.items.now + r.more < 2 ^ 64 };
-}
-
-impl<'a, T> RepeatFirst<'a, T> {
-    // Returns a list of values, followed by `more` copies of its first value.
-    fn of(items: &'a [T], more: usize) -> Self
-        requires { length items.now + more < 2 ^ 64 }
-        ensures { result ≡ calls.extended_by_first items.now more }
-    {
-        RepeatFirst { items, more }
-    }
-}
-
-impl<'a, T: TiffScalar> TiffValue for RepeatFirst<'a, T> {
-    ghost use Rattle.std.specs.Prelude.{length, Ok};
-    ghost use Rattle.tiff_value.specs.Data.{data_of};
-    ghost use Rattle.tiff_value.specs.ValueLaws.{several};
-
-    ghost value_type = { T.value_type };
-
-    ghost value_count = { λ xs. length xs };
-
-    ghost field_data = { λ xs. Ok (data_of (T.scalars xs)) };
-
-    const BYTE_LEN: u8 = T::BYTE_LEN;
-
-    const FIELD_TYPE: Type = T::FIELD_TYPE;
-
-    fn type_and_len() -> (Type, u8)
-        ensures kind { result.0 ≡ T.value_type }
-        ensures len { result.1 ≡ type_size T.value_type }
-    {
-        T::type_and_len()
-    }
-
-    fn count(&self) -> usize {
-        if self.items.is_empty() {
-            return 0;
-        }
-        self.items.len() + self.more
-    }
-
-    fn check(&self) -> TiffResult<()> {
-        Ok(())
-    }
-
-    fn push_to(&self, out: &mut Vec<u8>) -> TiffResult<()> {
-        T::push_all(self.items, out)?;
-        push_first(self.items, self.more, out)
-    }
-
-    ghost sized = { λ xs. several T.value_type T.spelled T.scalars T.listed T.value_count T.field_data T.sized
-        T.alone xs };
-}
+use tiff_base::tags::{FileKind, Tag, Type};
+use tiff_value::encoder::horizontal_predictor::Sample;
+use tiff_value::encoder::tiff_value::TiffValue;
 
 // ---- the lists of chunks
 
@@ -232,19 +134,19 @@ impl<W: Sink, K: TiffKind> TiffEncoder<W, K> {
     fn set_bits(
         &mut self,
         fields: &mut DirectoryState,
-        bits: &[u16],
+        color: &ImageColor,
         extra: usize,
     ) -> TiffResult<()>
-        requires { length bits.now + extra < 2 ^ 16 }
+        requires { length color.now.bits + extra < 2 ^ 16 }
         ensures { Ends (λ _. fields.new)
-            (write_fields fields.old (fields_of (bits_tags bits.now extra)) self.old) result
+            (write_fields fields.old (fields_of (bits_tags color.now.bits extra)) self.old) result
             self.old self.new }
     {
-        self.set_tag(fields, Tag::BitsPerSample, &RepeatFirst::of(bits, extra))?;
+        self.set_tag(fields, Tag::BitsPerSample, &color.bits_with(extra))?;
         if extra == 0 {
             return Ok(());
         }
-        let samples = (bits.len() + extra) as u16;
+        let samples = color.samples() + extra as u16;
         self.set_tag(fields, Tag::SamplesPerPixel, &samples)?;
         Ok(())
     }
@@ -254,18 +156,16 @@ impl<W: Sink, K: TiffKind> TiffEncoder<W, K> {
     fn set_samples(
         &mut self,
         fields: &mut DirectoryState,
-        bits: &[u16],
-        formats: &[SampleFormat],
+        color: &ImageColor,
         extra: usize,
     ) -> TiffResult<()>
-        requires few { length bits.now + extra < 2 ^ 16 }
-        requires as_many { length formats.now ≡ length bits.now }
+        requires { length color.now.bits + extra < 2 ^ 16 }
         ensures { Ends (λ _. fields.new)
-            (write_fields fields.old (fields_of (samples_tags bits.now formats.now extra)) self.old)
-            result self.old self.new }
+            (write_fields fields.old (fields_of (samples_tags color.now.bits color.now.formats
+            extra)) self.old) result self.old self.new }
     {
-        self.set_bits(fields, bits, extra)?;
-        self.set_tag(fields, Tag::SampleFormat, &RepeatFirst::of(formats, extra))?;
+        self.set_bits(fields, color, extra)?;
+        self.set_tag(fields, Tag::SampleFormat, &color.formats_with(extra))?;
         Ok(())
     }
 
@@ -307,28 +207,23 @@ impl<W: Sink, K: TiffKind> TiffEncoder<W, K> {
     }
 
     // Writes the tags that the end of an image writes. After an error the image must not be used.
-    fn set_last<C: ColorType>(&mut self, image: &mut ImageState<C>) -> TiffResult<()>
+    fn set_last<T: Sample>(&mut self, image: &mut ImageState<T>) -> TiffResult<()>
         ensures { Ends (λ _. image.new.directory) (write_fields image.old.directory
             (fields_of (calls.last_tags self.old.kind image.old)) self.old) result self.old self.new }
     {
         self.fact_kind();
         let extra = image.extra.len();
         let chunk_type = image.form.chunk_type;
-        self.set_samples(
-            &mut image.directory,
-            C::sample_bits(),
-            C::sample_formats(),
-            extra,
-        )?;
+        self.set_samples(&mut image.directory, &image.color, extra)?;
         self.set_lists(&mut image.directory, chunk_type, &image.chunks)?;
         Ok(())
     }
 
     // `finish` of an image: writes its last tags, and then ends its directory. After an error the
     // image must not be used.
-    pub(crate) fn finish_image<C: ColorType>(
+    pub(crate) fn finish_image<T: Sample>(
         &mut self,
-        image: &mut ImageState<C>,
+        image: &mut ImageState<T>,
     ) -> TiffResult<DirectoryOffset<K>>
         ensures { Ends (λ d. d) (calls.finish_image image.old self.old) result self.old self.new }
     {

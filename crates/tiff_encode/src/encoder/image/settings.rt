@@ -15,14 +15,15 @@ ghost use Rattle.tiff_encode.specs.Tagging.{StopsResolving, fields_of};
 use crate::encoder::TiffEncoder;
 use crate::encoder::directory::encoder::DirectoryEncoder;
 use crate::encoder::directory::tags::TagValue;
-use crate::encoder::image::state::{ChunkLayout, ImageState, is_packed};
+use crate::encoder::image::color::ImageColor;
+use crate::encoder::image::state::{ChunkLayout, ImageState};
 use crate::encoder::kind::TiffKind;
 use crate::encoder::limits::check_field;
 use tiff_base::color::ChunkType;
 use tiff_base::error::{TiffError, TiffResult, UsageError};
 use tiff_base::io::{IoKind, Sink};
 use tiff_base::tags::{ExtraSamples, FileKind, PlanarConfiguration, ResolutionUnit, Tag};
-use tiff_value::encoder::colortype::ColorType;
+use tiff_value::encoder::horizontal_predictor::Sample;
 use tiff_value::encoder::tiff_value::{Rational, Slice, TiffValue};
 
 // ---- errors
@@ -40,14 +41,14 @@ impl<W: Sink, K: TiffKind> TiffEncoder<W, K> {
 
     // Returns the first error of `extra_samples` that applies before a byte is written.
     #[tactic(auto, using(crate::proofs::Calling::fresh_cause, crate::proofs::Calling::stopped_cause), unfolding(crate::specs::Causes::extra_samples_cause))]
-    fn check_extra_samples<C: ColorType>(
+    fn check_extra_samples<T: Sample>(
         &self,
-        image: &ImageState<C>,
+        image: &ImageState<T>,
         extra: &[ExtraSamples],
     ) -> TiffResult<()>
         ensures { MatchResult result
             (λ _. (causes.extra_samples_cause self.now image.now extra.now ≡ None)
-            × (length C.described.bits + length extra.now < 2 ^ 16))
+            × (length image.now.color.bits + length extra.now < 2 ^ 16))
             (λ e. causes.extra_samples_cause self.now image.now extra.now ≡ Some e) }
     {
         let _form = &image.form;
@@ -55,10 +56,10 @@ impl<W: Sink, K: TiffKind> TiffEncoder<W, K> {
         if image.is_begun() {
             return Err(TiffError::UsageError(UsageError::ReconfiguredAfterImageWrite));
         }
-        if is_packed::<C>() {
+        if image.color.is_packed() {
             return Err(TiffError::IoError(IoKind::InvalidInput));
         }
-        if is_past_samples(C::sample_bits().len(), extra.len()) {
+        if is_past_samples(usize::from(image.color.samples()), extra.len()) {
             return Err(TiffError::IntSizeError);
         }
         self.check_extras(end, extra)
@@ -66,7 +67,7 @@ impl<W: Sink, K: TiffKind> TiffEncoder<W, K> {
 
     // Returns the first error of `rows_per_strip` that applies before a byte is written.
     #[tactic(auto, using(crate::proofs::Calling::fresh_cause, crate::proofs::Calling::stopped_cause), unfolding(crate::specs::Causes::rows_per_strip_cause))]
-    fn check_rows_per_strip<C: ColorType>(&self, image: &ImageState<C>, rows: u32) -> TiffResult<()>
+    fn check_rows_per_strip<T: Sample>(&self, image: &ImageState<T>, rows: u32) -> TiffResult<()>
         ensures { MatchResult result
             (λ _. (causes.rows_per_strip_cause self.now image.now rows ≡ None) × (0 < rows))
             (λ e. causes.rows_per_strip_cause self.now image.now rows ≡ Some e) }
@@ -80,9 +81,9 @@ impl<W: Sink, K: TiffKind> TiffEncoder<W, K> {
 
     // Returns the first error of `tiles` that applies before a byte is written.
     #[tactic(auto, using(crate::proofs::Calling::fresh_cause, crate::proofs::Calling::stopped_cause), unfolding(crate::specs::Causes::tiles_cause))]
-    fn check_tiles<C: ColorType>(
+    fn check_tiles<T: Sample>(
         &self,
-        image: &ImageState<C>,
+        image: &ImageState<T>,
         width: u32,
         length: u32,
     ) -> TiffResult<()>
@@ -96,7 +97,7 @@ impl<W: Sink, K: TiffKind> TiffEncoder<W, K> {
         if image.is_begun() {
             return Err(TiffError::UsageError(UsageError::ReconfiguredAfterImageWrite));
         }
-        if is_no_tile::<C>(width, length) {
+        if is_no_tile(&image.color, width, length) {
             return Err(TiffError::IoError(IoKind::InvalidInput));
         }
         Ok(())
@@ -104,7 +105,7 @@ impl<W: Sink, K: TiffKind> TiffEncoder<W, K> {
 
     // Returns the first error of `planar` that applies before a byte is written.
     #[tactic(auto, using(crate::proofs::Calling::fresh_cause, crate::proofs::Calling::stopped_cause), unfolding(crate::specs::Causes::planar_cause))]
-    fn check_planar<C: ColorType>(&self, image: &ImageState<C>) -> TiffResult<()>
+    fn check_planar<T: Sample>(&self, image: &ImageState<T>) -> TiffResult<()>
         ensures { Checks (causes.planar_cause self.now image.now) result }
     {
         self.end()?;
@@ -154,12 +155,12 @@ fn is_no_side(n: u32) -> bool
     n == 0 || n % 16 != 0
 }
 
-// Returns whether an image of a color type can't have tiles of a width and a length.
-fn is_no_tile<C: ColorType>(width: u32, length: u32) -> bool
-    ensures { result ≡ (color_type.is_packed C.described || (causes.is_no_side width
+// Returns whether an image with such samples can't have tiles of a width and a length.
+fn is_no_tile(color: &ImageColor, width: u32, length: u32) -> bool
+    ensures { result ≡ (color_type.is_packed color.now || (causes.is_no_side width
         || causes.is_no_side length)) }
 {
-    is_packed::<C>() || is_no_side(width) || is_no_side(length)
+    color.is_packed() || is_no_side(width) || is_no_side(length)
 }
 
 // Returns whether a pixel would have more than 65535 samples.
@@ -184,9 +185,9 @@ fn is_past_resolution(kind: FileKind, end: u64) -> bool
 
 impl<W: Sink, K: TiffKind> TiffEncoder<W, K> {
     // `extra_samples`
-    fn set_extra_samples<C: ColorType>(
+    fn set_extra_samples<T: Sample>(
         &mut self,
-        image: &mut ImageState<C>,
+        image: &mut ImageState<T>,
         extra: &[ExtraSamples],
     ) -> TiffResult<()>
         ensures stays { OnErr result (image.new ≡ image.old) }
@@ -203,9 +204,9 @@ impl<W: Sink, K: TiffKind> TiffEncoder<W, K> {
     }
 
     // `rows_per_strip`
-    fn set_rows_per_strip<C: ColorType>(
+    fn set_rows_per_strip<T: Sample>(
         &mut self,
-        image: &mut ImageState<C>,
+        image: &mut ImageState<T>,
         rows: u32,
     ) -> TiffResult<()>
         ensures stays { OnErr result (image.new ≡ image.old) }
@@ -225,9 +226,9 @@ impl<W: Sink, K: TiffKind> TiffEncoder<W, K> {
 
     // `tiles`. The call sets the fields in a copy of the directory, and then replaces the directory
     // by the copy.
-    fn set_tiles<C: ColorType>(
+    fn set_tiles<T: Sample>(
         &mut self,
-        image: &mut ImageState<C>,
+        image: &mut ImageState<T>,
         width: u32,
         length: u32,
     ) -> TiffResult<()>
@@ -255,7 +256,7 @@ impl<W: Sink, K: TiffKind> TiffEncoder<W, K> {
     }
 
     // `planar`
-    fn set_planar<C: ColorType>(&mut self, image: &mut ImageState<C>) -> TiffResult<()>
+    fn set_planar<T: Sample>(&mut self, image: &mut ImageState<T>) -> TiffResult<()>
         ensures stays { OnErr result (image.new ≡ image.old) }
         ensures answer { Ends (λ _. image.new) (calls.planar image.old self.old) result self.old self.new }
     {
@@ -270,9 +271,9 @@ impl<W: Sink, K: TiffKind> TiffEncoder<W, K> {
     }
 
     // `resolution`. After an error the first of its tags can be set.
-    fn set_resolution<C: ColorType>(
+    fn set_resolution<T: Sample>(
         &mut self,
-        image: &mut ImageState<C>,
+        image: &mut ImageState<T>,
         unit: ResolutionUnit,
         value: Rational,
     ) -> TiffResult<()>
@@ -288,9 +289,9 @@ impl<W: Sink, K: TiffKind> TiffEncoder<W, K> {
     }
 
     // `x_resolution`
-    fn set_x_resolution<C: ColorType>(
+    fn set_x_resolution<T: Sample>(
         &mut self,
-        image: &mut ImageState<C>,
+        image: &mut ImageState<T>,
         value: Rational,
     ) -> TiffResult<()>
         ensures stays { OnErr result (image.new ≡ image.old) }
@@ -303,9 +304,9 @@ impl<W: Sink, K: TiffKind> TiffEncoder<W, K> {
     }
 
     // `y_resolution`
-    fn set_y_resolution<C: ColorType>(
+    fn set_y_resolution<T: Sample>(
         &mut self,
-        image: &mut ImageState<C>,
+        image: &mut ImageState<T>,
         value: Rational,
     ) -> TiffResult<()>
         ensures stays { OnErr result (image.new ≡ image.old) }
@@ -318,9 +319,9 @@ impl<W: Sink, K: TiffKind> TiffEncoder<W, K> {
     }
 
     // `resolution_unit`
-    fn set_resolution_unit<C: ColorType>(
+    fn set_resolution_unit<T: Sample>(
         &mut self,
-        image: &mut ImageState<C>,
+        image: &mut ImageState<T>,
         unit: ResolutionUnit,
     ) -> TiffResult<()>
         ensures stays { OnErr result (image.new ≡ image.old) }
@@ -347,7 +348,7 @@ fn resolution_values(unit: ResolutionUnit, value: Rational) -> [TagValue; 3]
 
 // ---- calls of an open image
 
-impl<'a, W: Sink, K: TiffKind, C: ColorType> DirectoryEncoder<'a, W, K, ImageState<C>> {
+impl<'a, W: Sink, K: TiffKind, T: Sample> DirectoryEncoder<'a, W, K, ImageState<T>> {
     /// Sets the meaning of the samples of a pixel that follow those of the color type, one item for
     /// each extra sample. The list replaces an earlier one. Each pixel that is written after the
     /// call has these samples too. Returns the first error that applies: `UsageError(WriterFailed)`

@@ -1,7 +1,6 @@
 //! The state of an open image.
 
 ghost use Rattle.std.specs.Prelude.{◌≡◌, ◌^◌, ◌<◌, ◌≤◌, MatchOption, false, true};
-ghost use Rattle.tiff_value.specs.ColorType as color_type;
 ghost use Rattle.tiff_page.specs.Counts.{all_chunks, parts, planes_of};
 ghost use Rattle.tiff_page.specs.Pixels.{stored_samples};
 ghost use Rattle.tiff_page.specs.Rect.{chunks_of_plane};
@@ -11,13 +10,14 @@ ghost use Rattle.tiff_encode.specs.Given.{StoresBytes};
 
 use crate::encoder::directory::state::{DirectoryState, HasDirectory, Room};
 use crate::encoder::image::chunk_scratch::ChunkScratch;
+use crate::encoder::image::color::ImageColor;
 use crate::encoder::settings::Compression;
 use std::marker::{Model, PhantomData};
 use tiff_base::color::ChunkType;
 use tiff_base::directory::{Directory, Entry};
 use tiff_base::error::TiffResult;
 use tiff_base::tags::{ExtraSamples, PlanarConfiguration, Predictor, Tag};
-use tiff_value::encoder::colortype::ColorType;
+use tiff_value::encoder::horizontal_predictor::Sample;
 
 /// How an image is divided into chunks: strips or tiles; the width and the height of a chunk, in
 /// columns and rows, where the last strip of a plane can have fewer rows; and whether a chunk contains all
@@ -42,7 +42,7 @@ pub struct Chunk {
 /// its division into chunks, the chunks in the file, and the buffers that compress chunks, which
 /// stay empty if chunks aren't compressed.
 #[derive(Drop)]
-pub struct ImageState<C: ColorType> {
+pub struct ImageState<T: Sample> {
     pub(crate) directory: DirectoryState,
     pub(crate) width: u32,
     pub(crate) height: u32,
@@ -53,10 +53,11 @@ pub struct ImageState<C: ColorType> {
     pub(crate) form: ChunkLayout,
     pub(crate) chunks: Vec<Chunk>,
     pub(crate) scratch: ChunkScratch,
-    pub(crate) color: PhantomData<C>,
+    pub(crate) color: ImageColor,
+    pub(crate) sample: PhantomData<T>,
 }
 
-impl<C: ColorType> Model for ImageState<C> {
+impl<T: Sample> Model for ImageState<T> {
     ghost use Rattle.std.specs.Coded.{codes};
     ghost use Rattle.std.specs.FinMap as map;
     ghost use Rattle.std.specs.Prelude.{length};
@@ -73,8 +74,8 @@ impl<C: ColorType> Model for ImageState<C> {
       width = i.width;
       height = i.height;
       pixels = i.pixels;
-      color = C.described;
-      size = type_size C.Inner.value_type;
+      color = i.color;
+      size = type_size T.value_type;
       extra = i.extra.items;
       predictor = i.predictor;
       compression = i.compression;
@@ -82,10 +83,10 @@ impl<C: ColorType> Model for ImageState<C> {
       chunks = i.chunks.items;
     } };
 
-    ghost invariant = { λ i. IsValidImage i.width i.height (length C.described.bits) (length i.extra.items) i.form };
+    ghost invariant = { λ i. IsValidImage i.width i.height (length i.color.bits) (length i.extra.items) i.form };
 }
 
-impl<C: ColorType> HasDirectory for ImageState<C> {
+impl<T: Sample> HasDirectory for ImageState<T> {
     ghost use Rattle.std.specs.Prelude.{refl};
     ghost use Rattle.tiff_encode.specs.Calls.{with_directory_of};
 
@@ -110,13 +111,14 @@ impl<C: ColorType> HasDirectory for ImageState<C> {
     ghost with_its_own = { λ i. refl };
 }
 
-impl<C: ColorType> ImageState<C> {
+impl<T: Sample> ImageState<T> {
     /// Returns the number of samples of a pixel, with the extra samples.
     pub(crate) fn samples(&self) -> u64
         ensures count { result ≡ all_samples self.now }
+        ensures some { 0 < result }
         ensures few { result < 2 ^ 16 }
     {
-        C::sample_bits().len() as u64 + self.extra.len() as u64
+        u64::from(self.color.samples()) + self.extra.len() as u64
     }
 
     /// Returns whether the image has a chunk in the file.
@@ -129,6 +131,7 @@ impl<C: ColorType> ImageState<C> {
     /// Returns the number of samples of a pixel in a chunk.
     pub(crate) fn stored_samples(&self) -> u64
         ensures count { result ≡ stored_samples (image_page self.now) }
+        ensures some { 0 < result }
         ensures few { result < 2 ^ 16 }
     {
         match self.form.planar {
@@ -264,23 +267,6 @@ impl<C: ColorType> ImageState<C> {
             ChunkType::Strip => self.next_samples(),
         }
     }
-}
-
-/// Returns the number of bits of the first sample of a pixel, 0 if there is none.
-pub(crate) fn first_bits<C: ColorType>() -> u16
-    ensures { result ≡ color_type.first_bits C.described }
-{
-    match C::sample_bits() {
-        [bits, ..] => *bits,
-        [] => 0,
-    }
-}
-
-/// Returns whether a color type packs several pixels into a byte.
-pub(crate) fn is_packed<C: ColorType>() -> bool
-    ensures { result ≡ color_type.is_packed C.described }
-{
-    first_bits::<C>() < 8
 }
 
 /// Returns how many parts of a size cover a length.

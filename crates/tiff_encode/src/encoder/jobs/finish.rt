@@ -18,7 +18,7 @@ use crate::encoder::kind::TiffKind;
 use crate::encoder::script::{DirectoryEnd, EndReply, ImageEnd, JobSamples};
 use tiff_base::error::TiffResult;
 use tiff_base::io::Sink;
-use tiff_value::encoder::colortype::ColorType;
+use tiff_value::encoder::horizontal_predictor::Sample;
 use tiff_value::encoder::tiff_value::{TiffScalar, TiffValue};
 
 impl<'a, W: Sink, K: TiffKind> DirectoryEncoder<'a, W, K, DirectoryState> {
@@ -63,27 +63,27 @@ impl<'a, W: Sink, K: TiffKind> DirectoryEncoder<'a, W, K, DirectoryState> {
     }
 }
 
-impl<C: ColorType> ImageState<C> {
+impl<T: Sample> ImageState<T> {
     /// Returns the bytes of samples, if the image stores them as they are in a chunk.
     pub(crate) fn chunk_bytes<'b>(&self, samples: &'b JobSamples<'_>) -> Option<&'b [u8]>
         ensures storable { IfSome result (λ bytes. StoresBytes self.now
-            × (length bytes.now % type_size C.Inner.value_type ≡ 0)) }
+            × (length bytes.now % type_size T.value_type ≡ 0)) }
         ensures same { IfSome result (λ bytes. samples.now
-            ≡ numbers_in (type_size C.Inner.value_type) bytes.now) }
+            ≡ numbers_in (type_size T.value_type) bytes.now) }
     {
         if !self.stores_bytes() {
             return None;
         }
-        let (_kind, len) = C::Inner::type_and_len();
+        let (_kind, len) = T::type_and_len();
         samples.lent(usize::from(len))
     }
 
     // Returns the bytes of samples, if the image stores them as they are, one strip after another.
     fn storable_bytes<'b>(&self, samples: &'b JobSamples<'_>) -> Option<&'b [u8]>
         ensures storable { IfSome result (λ bytes. IsPlain self.now
-            × (length bytes.now % type_size C.Inner.value_type ≡ 0)) }
+            × (length bytes.now % type_size T.value_type ≡ 0)) }
         ensures same { IfSome result (λ bytes. samples.now
-            ≡ numbers_in (type_size C.Inner.value_type) bytes.now) }
+            ≡ numbers_in (type_size T.value_type) bytes.now) }
     {
         if !self.is_in_order() {
             return None;
@@ -92,7 +92,7 @@ impl<C: ColorType> ImageState<C> {
     }
 }
 
-impl<'a, W: Sink, K: TiffKind, C: ColorType> DirectoryEncoder<'a, W, K, ImageState<C>> {
+impl<'a, W: Sink, K: TiffKind, T: Sample> DirectoryEncoder<'a, W, K, ImageState<T>> {
     // Drops an open image. It writes no directory.
     fn abandon(self)
         ensures { self.exit.0.now ≡ self.entry.encoder.now }
@@ -104,14 +104,14 @@ impl<'a, W: Sink, K: TiffKind, C: ColorType> DirectoryEncoder<'a, W, K, ImageSta
     }
 
     // `write_data`
-    fn write_samples(self, samples: ImageSamples<'_, C::Inner>) -> TiffResult<EndReply>
-        requires { AreStorable (type_size C.Inner.value_type) self.state samples }
+    fn write_samples(self, samples: ImageSamples<'_, T>) -> TiffResult<EndReply>
+        requires { AreStorable (type_size T.value_type) self.state samples }
         ensures { EndMoves (λ s t offset. WritesData self.entry.state
-            (given_numbers (type_size C.Inner.value_type) C.Inner.bits samples.entry) result s t
+            (given_numbers (type_size T.value_type) T.bits samples.entry) result s t
             offset)
             self.entry.state.directory.parent self.entry.encoder.now self.exit.0.now
             (DataHeld self.entry.state
-            (given_numbers (type_size C.Inner.value_type) C.Inner.bits samples.entry)) }
+            (given_numbers (type_size T.value_type) T.bits samples.entry)) }
     {
         self.state.fact_fits();
         self.state.fact_type();
@@ -133,11 +133,11 @@ impl<'a, W: Sink, K: TiffKind, C: ColorType> DirectoryEncoder<'a, W, K, ImageSta
     {
         self.state.fact_type();
         if let Some(bytes) = self.state.storable_bytes(numbers) {
-            let samples = ImageSamples::<C::Inner>::Stored(bytes);
+            let samples = ImageSamples::<T>::Stored(bytes);
             samples.fact_numbers();
             return self.write_samples(samples);
         }
-        let samples = match numbers.cut::<C::Inner>(self.encoder.alloc()) {
+        let samples = match numbers.cut::<T>(self.encoder.alloc()) {
             Ok(samples) => samples,
             Err(fault) => {
                 self.abandon();

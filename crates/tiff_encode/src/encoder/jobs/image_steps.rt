@@ -16,7 +16,7 @@ use crate::encoder::script::{ImageStep, JobSamples, StepReply};
 use tiff_base::error::TiffResult;
 use tiff_base::io::Sink;
 use tiff_base::tags::ResolutionUnit;
-use tiff_value::encoder::colortype::ColorType;
+use tiff_value::encoder::horizontal_predictor::Sample;
 use tiff_value::encoder::tiff_value::Rational;
 
 // Returns the reply to a step whose call returns `()`.
@@ -37,7 +37,7 @@ fn copied(value: &Rational) -> Rational
     }
 }
 
-impl<'a, W: Sink, K: TiffKind, C: ColorType> DirectoryEncoder<'a, W, K, ImageState<C>> {
+impl<'a, W: Sink, K: TiffKind, T: Sample> DirectoryEncoder<'a, W, K, ImageState<T>> {
     // `write_strip` of samples, each of which is the lowest bits of a number.
     fn strip_step(&mut self, numbers: &JobSamples<'_>) -> TiffResult<StepReply>
         ensures same_reference { self.new.encoder.ghost_name ≡ self.old.encoder.ghost_name }
@@ -46,7 +46,7 @@ impl<'a, W: Sink, K: TiffKind, C: ColorType> DirectoryEncoder<'a, W, K, ImageSta
     {
         self.state.fact_type();
         numbers.are_few();
-        let samples = numbers.cut::<C::Inner>(self.encoder.alloc())?;
+        let samples = numbers.cut::<T>(self.encoder.alloc())?;
         self.encoder.fact_short();
         let answer = self.write_strip(samples.as_slice());
         self.encoder.fact_short();
@@ -54,12 +54,12 @@ impl<'a, W: Sink, K: TiffKind, C: ColorType> DirectoryEncoder<'a, W, K, ImageSta
     }
 
     // `write_chunk` of samples, which are the lowest bits of any numbers.
-    fn given_step(&mut self, samples: ImageSamples<'_, C::Inner>) -> TiffResult<StepReply>
-        requires { IsChunkStorable (type_size C.Inner.value_type) self.old.state samples }
+    fn given_step(&mut self, samples: ImageSamples<'_, T>) -> TiffResult<StepReply>
+        requires { IsChunkStorable (type_size T.value_type) self.old.state samples }
         ensures same_reference { self.new.encoder.ghost_name ≡ self.old.encoder.ghost_name }
         ensures draws { (numbers : List ℕ)
             → cut_to self.old.state.size numbers
-            ≡ given_numbers (type_size C.Inner.value_type) C.Inner.bits samples.entry
+            ≡ given_numbers (type_size T.value_type) T.bits samples.entry
             → length numbers < 2 ^ 64 - 1
             → ChunkDraws self.old.state numbers result self.old.encoder.now self.new.encoder.now
             self.new.state }
@@ -80,11 +80,11 @@ impl<'a, W: Sink, K: TiffKind, C: ColorType> DirectoryEncoder<'a, W, K, ImageSta
         self.state.fact_type();
         numbers.are_few();
         if let Some(bytes) = self.state.chunk_bytes(numbers) {
-            let samples = ImageSamples::<C::Inner>::Stored(bytes);
+            let samples = ImageSamples::<T>::Stored(bytes);
             samples.fact_numbers();
             return self.given_step(samples);
         }
-        let samples = numbers.cut::<C::Inner>(self.encoder.alloc())?;
+        let samples = numbers.cut::<T>(self.encoder.alloc())?;
         self.given_step(ImageSamples::Typed(samples.as_slice()))
     }
 

@@ -8,7 +8,7 @@ use Rattle.tiff_encode.proofs.encoder.TiffEncoder.append_packed.Goals as goal
 
 pub returns : goal.returns
 returns g c =
-    let number = sample_number (type_size g.C.Inner.TiffValue.value_type) g.C.Inner.Sample.bits in
+    let number = sample_number (type_size g.T.TiffValue.value_type) g.T.Sample.bits in
     let i = c.args.image.now in
     let numbers = map number c.args.samples.now in
     let is_stored =

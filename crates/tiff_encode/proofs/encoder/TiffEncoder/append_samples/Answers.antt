@@ -11,10 +11,10 @@ use Rattle.tiff_encode.proofs.encoder.TiffEncoder.append_samples.Goals as goal
 
 pub returns-in_err-offset : goal.returns-in_err-offset
 returns-in_err-offset g c =
-    let size = type_size g.C.Inner.TiffValue.value_type in
+    let size = type_size g.T.TiffValue.value_type in
     let i = c.args.image.now in
-    let numbers = map (sample_number size g.C.Inner.Sample.bits) c.args.samples.now in
-    let long = length-map c.args.samples.now (sample_number size g.C.Inner.Sample.bits) in
+    let numbers = map (sample_number size g.T.Sample.bits) c.args.samples.now in
+    let long = length-map c.args.samples.now (sample_number size g.T.Sample.bits) in
     let many =
     unpacked_len i numbers size (sym (ap (λ i. i.size) c.image.view_is)) c.in_ok-bytes.bytes
     (c.in_ok-bytes.ensures.0 ∙ ap (λ n. n * size) (sym long)) in
@@ -28,13 +28,13 @@ append_rows-requires-clause-whole g c =
 
 pub returns-in_err-append_rows : goal.returns-in_err-append_rows
 returns-in_err-append_rows g c =
-    let size = type_size g.C.Inner.TiffValue.value_type in
+    let size = type_size g.T.TiffValue.value_type in
     let i = c.args.image.now in
     let old = c.args.self.now in
     let new = c.append_rows.new.self in
     let e = c.in_err-append_rows.field-0.0 in
-    let numbers = map (sample_number size g.C.Inner.Sample.bits) c.args.samples.now in
-    let long = length-map c.args.samples.now (sample_number size g.C.Inner.Sample.bits) in
+    let numbers = map (sample_number size g.T.Sample.bits) c.args.samples.now in
+    let long = length-map c.args.samples.now (sample_number size g.T.Sample.bits) in
     let sized = sym (ap (λ i. i.size) c.image.view_is) in
     let many =
     unpacked_len i numbers size sized c.in_ok-bytes.bytes (c.in_ok-bytes.ensures.0
@@ -52,10 +52,10 @@ returns-in_err-append_rows g c =
 
 pub returns : goal.returns
 returns g c =
-    let size = type_size g.C.Inner.TiffValue.value_type in
+    let size = type_size g.T.TiffValue.value_type in
     let i = c.args.image.now in
-    let numbers = map (sample_number size g.C.Inner.Sample.bits) c.args.samples.now in
-    let long = length-map c.args.samples.now (sample_number size g.C.Inner.Sample.bits) in
+    let numbers = map (sample_number size g.T.Sample.bits) c.args.samples.now in
+    let long = length-map c.args.samples.now (sample_number size g.T.Sample.bits) in
     let sized = sym (ap (λ i. i.size) c.image.view_is) in
     let many =
     unpacked_len i numbers size sized c.in_ok-bytes.bytes (c.in_ok-bytes.ensures.0

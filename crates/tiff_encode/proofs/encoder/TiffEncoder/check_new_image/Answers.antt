@@ -9,7 +9,7 @@ returns g c =
       c.in_ok-end.ensures.0,
       sides.0,
       sides.1,
-      begins_uncaused c.args.self.now g.C.ColorType.described c.file_kind.result c.in_ok-end.end c.self.inside.predictor c.is_unpredicted.result c.args.width c.args.height None
+      begins_uncaused c.args.self.now c.args.color.now c.file_kind.result c.in_ok-end.end c.self.inside.predictor c.is_unpredicted.result c.args.width c.args.height None
           c.in_ok-end.ensures.0 c.file_kind.ensures c.in_ok-end.ensures.1
           (ap (λ e. e.predictor) c.self.view_is) c.is_unpredicted.ensures c.in_ok-check_image.ensures,
     )

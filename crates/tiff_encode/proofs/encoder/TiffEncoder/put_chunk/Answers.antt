@@ -8,13 +8,13 @@ use Rattle.tiff_encode.proofs.encoder.TiffEncoder.put_chunk.Goals as goal
 
 pub returns-in-Some : goal.returns-in-Some
 returns-in-Some g c =
-    let number = sample_number (type_size g.C.Inner.TiffValue.value_type) g.C.Inner.Sample.bits in
+    let number = sample_number (type_size g.T.TiffValue.value_type) g.T.Sample.bits in
     chunk_stored c.args.self.now c.args.image.now (map number c.args.samples.now) c.append_chunk.new.self c.append_chunk.new.image _
     c.in-Some.bytes.now c.append_chunk.result (sym (length-map c.args.samples.now number)) c.in-Some.ensures c.append_chunk.ensures
 
 pub returns-in-Uncompressed : goal.returns-in-Uncompressed
 returns-in-Uncompressed g c =
-    let number = sample_number (type_size g.C.Inner.TiffValue.value_type) g.C.Inner.Sample.bits in
+    let number = sample_number (type_size g.T.TiffValue.value_type) g.T.Sample.bits in
     let i = c.args.image.now in
     let numbers = map number c.args.samples.now in
     let packed = sym (ap (λ i. i.compression) c.image.view_is) ∙ c.in-Uncompressed.is in

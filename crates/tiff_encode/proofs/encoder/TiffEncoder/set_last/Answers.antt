@@ -6,9 +6,8 @@ pub returns-in_err-set_samples : goal.returns-in_err-set_samples
 returns-in_err-set_samples g c =
     let told =
     let is = c.image.view_is in
-    samples_unwritten c.args.self.now.kind c.args.image.now c.image.inside.directory c.sample_bits.result.now c.sample_formats.result.now c.len-extra.result
-    (ap (λ i. i.directory) is) (c.sample_bits.ensures
-    ∙ ap (λ i. i.color.bits) is) (c.sample_formats.ensures ∙ ap (λ i. i.color.formats) is)
+    samples_unwritten c.args.self.now.kind c.args.image.now c.image.inside.directory c.image.inside.color.bits c.image.inside.color.formats c.len-extra.result
+    (ap (λ i. i.directory) is) (ap (λ i. i.color.bits) is) (ap (λ i. i.color.formats) is)
     (c.len-extra.ensures ∙ c.image.inside.extra.ok.0
     ∙ ap (λ i. length i.extra) is) c.in_err-set_samples.field-0.0 c.args.self.now c.set_samples.new.self c.in_err-set_samples.ensures in
     search rules
@@ -16,9 +15,8 @@ returns-in_err-set_samples g c =
 pub returns : goal.returns
 returns g c =
     let is = c.image.view_is in
-    last_set c.args.self.now.kind c.args.image.now c.image.inside.directory c.sample_bits.result.now c.sample_formats.result.now c.len-extra.result
-    (ap (λ i. i.directory) is) (c.sample_bits.ensures
-    ∙ ap (λ i. i.color.bits) is) (c.sample_formats.ensures ∙ ap (λ i. i.color.formats) is)
+    last_set c.args.self.now.kind c.args.image.now c.image.inside.directory c.image.inside.color.bits c.image.inside.color.formats c.len-extra.result
+    (ap (λ i. i.directory) is) (ap (λ i. i.color.bits) is) (ap (λ i. i.color.formats) is)
     (c.len-extra.ensures ∙ c.image.inside.extra.ok.0
     ∙ ap (λ i. length i.extra) is) (λ d. d) c.set_samples.new.fields g.K.TiffKind.kind c.image.inside.form.chunk_type c.deref.result.now
     (Ok c.set_lists.new.fields) c.args.self.now c.set_samples.new.self c.set_lists.new.self c.fact_kind.ensures (ap (λ i. i.form.chunk_type) is)
@@ -28,9 +26,8 @@ pub returns-in_err-set_lists : goal.returns-in_err-set_lists
 returns-in_err-set_lists g c =
     let told =
     let is = c.image.view_is in
-    last_set c.args.self.now.kind c.args.image.now c.image.inside.directory c.sample_bits.result.now c.sample_formats.result.now c.len-extra.result
-    (ap (λ i. i.directory) is) (c.sample_bits.ensures
-    ∙ ap (λ i. i.color.bits) is) (c.sample_formats.ensures ∙ ap (λ i. i.color.formats) is)
+    last_set c.args.self.now.kind c.args.image.now c.image.inside.directory c.image.inside.color.bits c.image.inside.color.formats c.len-extra.result
+    (ap (λ i. i.directory) is) (ap (λ i. i.color.bits) is) (ap (λ i. i.color.formats) is)
     (c.len-extra.ensures ∙ c.image.inside.extra.ok.0
     ∙ ap (λ i. length i.extra) is) (λ d. d) c.set_samples.new.fields g.K.TiffKind.kind c.image.inside.form.chunk_type c.deref.result.now
     (Err c.in_err-set_lists.field-0.0) c.args.self.now c.set_samples.new.self c.set_lists.new.self c.fact_kind.ensures (ap (λ i. i.form.chunk_type) is)

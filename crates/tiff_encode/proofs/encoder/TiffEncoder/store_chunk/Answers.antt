@@ -12,8 +12,8 @@ put_given-requires-clause-next g c =
 
 pub returns : goal.returns
 returns g c =
-    let size = type_size g.C.Inner.TiffValue.value_type in
+    let size = type_size g.T.TiffValue.value_type in
     let old = c.args.self.now in
     let i = c.args.image.now in
-    chunk_written old i (given_numbers size g.C.Inner.Sample.bits c.args.samples) c.put_given.new.self c.put_given.new.image (given_count size c.args.samples) c.put_given.result
+    chunk_written old i (given_numbers size g.T.Sample.bits c.args.samples) c.put_given.new.self c.put_given.new.image (given_count size c.args.samples) c.put_given.result
     (ap (λ n. write_chunk_cause old i n 0) (sym c.count.ensures.count) ∙ c.in_ok-chunk_offset.ensures.2) c.put_given.ensures

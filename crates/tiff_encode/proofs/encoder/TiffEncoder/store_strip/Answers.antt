@@ -7,15 +7,15 @@ use Rattle.tiff_encode.proofs.encoder.TiffEncoder.store_strip.Goals as goal
 pub returns-in_err-end : goal.returns-in_err-end
 returns-in_err-end g c =
     let told =
-    strip_stopped c.args.self.now c.args.image.now (map (sample_number (type_size g.C.Inner.TiffValue.value_type) g.C.Inner.Sample.bits) c.args.samples.now) (length c.args.samples.now) c.in_err-end.field-0.0 c.in_err-end.ensures.0 c.in_err-end.ensures.1 in
+    strip_stopped c.args.self.now c.args.image.now (map (sample_number (type_size g.T.TiffValue.value_type) g.T.Sample.bits) c.args.samples.now) (length c.args.samples.now) c.in_err-end.field-0.0 c.in_err-end.ensures.0 c.in_err-end.ensures.1 in
     search rules
 
 pub returns-in-Tile : goal.returns-in-Tile
 returns-in-Tile g c =
-    strip_of_tiles c.args.self.now c.args.image.now (map (sample_number (type_size g.C.Inner.TiffValue.value_type) g.C.Inner.Sample.bits) c.args.samples.now) (length c.args.samples.now) c.in_ok-end.ensures.0
+    strip_of_tiles c.args.self.now c.args.image.now (map (sample_number (type_size g.T.TiffValue.value_type) g.T.Sample.bits) c.args.samples.now) (length c.args.samples.now) c.in_ok-end.ensures.0
     (ap (λ i. i.form.chunk_type) (sym c.image.view_is) ∙ c.in-Tile.is)
 
 pub returns : goal.returns
 returns g c =
-    strip_written c.args.self.now c.args.image.now (map (sample_number (type_size g.C.Inner.TiffValue.value_type) g.C.Inner.Sample.bits) c.args.samples.now) (length c.args.samples.now) c.store_chunk.result c.store_chunk.new.self c.store_chunk.new.image
+    strip_written c.args.self.now c.args.image.now (map (sample_number (type_size g.T.TiffValue.value_type) g.T.Sample.bits) c.args.samples.now) (length c.args.samples.now) c.store_chunk.result c.store_chunk.new.self c.store_chunk.new.image
     (ap (λ i. i.form.chunk_type) (sym c.image.view_is) ∙ c.in_default.is) c.store_chunk.ensures

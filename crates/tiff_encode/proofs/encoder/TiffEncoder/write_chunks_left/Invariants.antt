@@ -8,5 +8,5 @@ use Rattle.tiff_encode.proofs.encoder.TiffEncoder.write_chunks_left.Given as goa
 abbrev pub invariant-loop-written : goal.invariant-loop-written
 invariant-loop-written g l =
     let numbers =
-    given_numbers (type_size g.C.Inner.TiffValue.value_type) g.C.Inner.Sample.bits l.samples in
+    given_numbers (type_size g.T.TiffValue.value_type) g.T.Sample.bits l.samples in
     HasWritten l.fn.image (parts_left l.fn.image numbers) l.written l.fn.self l.self l.image

@@ -12,7 +12,7 @@ use Rattle.tiff_encode.proofs.encoder.TiffEncoder.write_image_data.Goals as goal
 pub returns : goal.returns
 returns g c =
     let numbers =
-    given_numbers (type_size g.C.Inner.TiffValue.value_type) g.C.Inner.Sample.bits c.args.samples in
+    given_numbers (type_size g.T.TiffValue.value_type) g.T.Sample.bits c.args.samples in
     let r : Result (Unit {0}) TiffError = Ok c.in_ok-write_chunks_left.field-0 in
     let chunks =
     subst (λ old. WritesChunks c.args.image.now (parts_left c.args.image.now numbers) r old c.write_chunks_left.new.self c.write_chunks_left.new.image)
@@ -24,7 +24,7 @@ pub returns-in_err-finish_image : goal.returns-in_err-finish_image
 returns-in_err-finish_image g c =
     let told =
     let numbers =
-    given_numbers (type_size g.C.Inner.TiffValue.value_type) g.C.Inner.Sample.bits c.args.samples in
+    given_numbers (type_size g.T.TiffValue.value_type) g.T.Sample.bits c.args.samples in
     let r : Result (Unit {0}) TiffError = Ok c.in_ok-write_chunks_left.field-0 in
     let chunks =
     subst (λ old. WritesChunks c.args.image.now (parts_left c.args.image.now numbers) r old c.write_chunks_left.new.self c.write_chunks_left.new.image)
@@ -36,7 +36,7 @@ returns-in_err-finish_image g c =
 pub returns-in_err-write_chunks_left : goal.returns-in_err-write_chunks_left
 returns-in_err-write_chunks_left g c =
     let numbers =
-    given_numbers (type_size g.C.Inner.TiffValue.value_type) g.C.Inner.Sample.bits c.args.samples in
+    given_numbers (type_size g.T.TiffValue.value_type) g.T.Sample.bits c.args.samples in
     let none =
     ap (write_image_data_cause c.args.self.now c.args.image.now) (sym c.count.ensures.numbers)
     ∙ c.in_ok-check_data.ensures in

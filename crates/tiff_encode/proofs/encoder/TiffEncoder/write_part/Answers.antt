@@ -9,11 +9,11 @@ use Rattle.tiff_encode.proofs.encoder.TiffEncoder.write_part.Goals as goal
 
 pub write_stored-requires-clause-whole : goal.write_stored-requires-clause-whole
 write_stored-requires-clause-whole g c =
-    let size = type_size g.C.Inner.TiffValue.value_type in
+    let size = type_size g.T.TiffValue.value_type in
     let i = c.args.image.now in
     let bytes = c.in-Stored.bytes in
     let is : c.args.samples ≡ Stored bytes = first_of (search rules, cc) in
     let many : image_samples i ≤ length (numbers_in size bytes.now) =
-    subst (λ s. image_samples i ≤ length (given_numbers size g.C.Inner.Sample.bits s)) is c.requires.whole in
+    subst (λ s. image_samples i ≤ length (given_numbers size g.T.Sample.bits s)) is c.requires.whole in
     let storable = subst (λ s. AreStorable size i s) is c.requires.storable in
     bytes_enough size (image_samples i) bytes.now storable.1 many

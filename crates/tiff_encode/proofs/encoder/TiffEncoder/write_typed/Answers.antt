@@ -7,7 +7,7 @@ use Rattle.tiff_encode.proofs.encoder.TiffEncoder.write_typed.Goals as goal
 
 pub returns-then-is_in_order : goal.returns-then-is_in_order
 returns-then-is_in_order g c =
-    let number = sample_number (type_size g.C.Inner.TiffValue.value_type) g.C.Inner.Sample.bits in
+    let number = sample_number (type_size g.T.TiffValue.value_type) g.T.Sample.bits in
     let i = c.args.image.now in
     let same =
     slice_part number i c.args.samples.now c.args.written c.slice_out-part.result.now
@@ -18,7 +18,7 @@ returns-then-is_in_order g c =
 
 pub put_chunk-requires-2 : goal.put_chunk-requires-2
 put_chunk-requires-2 g c =
-    let number = sample_number (type_size g.C.Inner.TiffValue.value_type) g.C.Inner.Sample.bits in
+    let number = sample_number (type_size g.T.TiffValue.value_type) g.T.Sample.bits in
     let i = c.args.image.now in
     let len : c.len.result ≡ length c.image.inside.chunks.items =
     omega (arith, c.len.ensures, c.image.inside.chunks.ok) in
@@ -30,7 +30,7 @@ put_chunk-requires-2 g c =
 
 pub returns : goal.returns
 returns g c =
-    let number = sample_number (type_size g.C.Inner.TiffValue.value_type) g.C.Inner.Sample.bits in
+    let number = sample_number (type_size g.T.TiffValue.value_type) g.T.Sample.bits in
     let i = c.args.image.now in
     let len : c.len.result ≡ length c.image.inside.chunks.items =
     omega (arith, c.len.ensures, c.image.inside.chunks.ok) in

@@ -7,7 +7,7 @@ use Rattle.tiff_encode.proofs.encoder.image.state.ImageState.chunk_bytes.Goals a
 
 pub returns-clause-storable : goal.returns-clause-storable
 returns-clause-storable g c =
-    let size = type_size g.C.Inner.TiffValue.value_type in
+    let size = type_size g.T.TiffValue.value_type in
     let sized : c.from.result ≡ size = c.from.ensures ∙ c.type_and_len-kind.ensures.len in
     let plain : StoresBytes c.args.self.now = search rules in
     some_also c.lent.result (λ b. length b.now % c.from.result ≡ 0) (λ b. StoresBytes c.args.self.now
@@ -15,7 +15,7 @@ returns-clause-storable g c =
 
 pub returns-clause-same : goal.returns-clause-same
 returns-clause-same g c =
-    let size = type_size g.C.Inner.TiffValue.value_type in
+    let size = type_size g.T.TiffValue.value_type in
     let sized : c.from.result ≡ size = c.from.ensures ∙ c.type_and_len-kind.ensures.len in
     some_also c.lent.result (λ b. c.args.samples.now ≡ numbers_in c.from.result b.now) (λ b. c.args.samples.now
     ≡ numbers_in size b.now) (λ b h. subst (λ n. c.args.samples.now ≡ numbers_in n b.now) sized h) c.lent.ensures.numbers

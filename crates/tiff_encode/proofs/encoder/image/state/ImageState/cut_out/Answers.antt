@@ -20,13 +20,13 @@ push_row-requires-clause-part g c =
 
 pub loop-at-preserved : goal.loop-at-preserved
 loop-at-preserved g c =
-    let number = sample_number (type_size g.C.Inner.TiffValue.value_type) g.C.Inner.Sample.bits in
+    let number = sample_number (type_size g.T.TiffValue.value_type) g.T.Sample.bits in
     rows_pushed (image_page c.args.self.now) (map number c.args.samples.now) c.args.chunk c.loop-at.at (rect_of c.chunk_area-chunk_area.result)
     (map number c.loop-at.out.items) (map number c.push_row.new.out.items) c.chunk_area-chunk_area.ensures c.loop-at.invariant c.in_ok-push_row.ensures
 
 pub returns : goal.returns
 returns g c =
-    let number = sample_number (type_size g.C.Inner.TiffValue.value_type) g.C.Inner.Sample.bits in
+    let number = sample_number (type_size g.T.TiffValue.value_type) g.T.Sample.bits in
     let p = image_page c.args.self.now in
     let numbers = map number c.args.samples.now in
     let last : c.rows_of-rows.result ≤ c.loop-at.at = c.loop-at-test.false in

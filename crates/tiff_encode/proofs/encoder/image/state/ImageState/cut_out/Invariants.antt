@@ -9,6 +9,6 @@ use Rattle.tiff_encode.proofs.encoder.image.state.ImageState.cut_out.Given as go
 -- the first rows are cut out
 abbrev pub invariant-loop-at : goal.invariant-loop-at
 invariant-loop-at g l =
-    let number = sample_number (type_size g.C.Inner.TiffValue.value_type) g.C.Inner.Sample.bits in
+    let number = sample_number (type_size g.T.TiffValue.value_type) g.T.Sample.bits in
     let p = image_page l.self in
     map number l.out.items ≡ tabulate (l.at * row_samples p) (by_row p (map number l.samples) l.chunk)

@@ -7,8 +7,8 @@ use Rattle.tiff_encode.proofs.encoder.image.state.ImageState.lent_bytes.Goals as
 pub returns-in-None : goal.returns-in-None
 returns-in-None g c =
     let i = c.args.self.now in
-    let size = type_size g.C.Inner.TiffValue.value_type in
-    lent_some (λ b. b.now) i (map (sample_number size g.C.Inner.Sample.bits) c.args.samples.now) size
+    let size = type_size g.T.TiffValue.value_type in
+    lent_some (λ b. b.now) i (map (sample_number size g.T.Sample.bits) c.args.samples.now) size
     (sym (ap (λ i. i.compression) c.self.view_is) ∙ c.in-Uncompressed.is)
     (sym (ap (λ i. i.predictor) c.self.view_is) ∙ c.in-None.is)
     (sym (ap (λ i. i.size) c.self.view_is)) c.as_bytes.result c.as_bytes.ensures

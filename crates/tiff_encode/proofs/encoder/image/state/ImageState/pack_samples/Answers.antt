@@ -15,8 +15,8 @@ pack-requires-clause-whole g c =
 pub returns-in-PackbitsRows : goal.returns-in-PackbitsRows
 returns-in-PackbitsRows g c =
     let i = c.args.self.now in
-    let size = type_size g.C.Inner.TiffValue.value_type in
-    let numbers = map (sample_number size g.C.Inner.Sample.bits) c.args.samples.now in
+    let size = type_size g.T.TiffValue.value_type in
+    let numbers = map (sample_number size g.T.Sample.bits) c.args.samples.now in
     let sized = sym (ap (λ i. i.size) c.self.view_is) in
     let row = c.row_and_stride-row.ensures.row in
     let same =
@@ -29,8 +29,8 @@ returns-in-PackbitsRows g c =
 pub returns-in_default : goal.returns-in_default
 returns-in_default g c =
     let i = c.args.self.now in
-    let size = type_size g.C.Inner.TiffValue.value_type in
-    let numbers = map (sample_number size g.C.Inner.Sample.bits) c.args.samples.now in
+    let size = type_size g.T.TiffValue.value_type in
+    let numbers = map (sample_number size g.T.Sample.bits) c.args.samples.now in
     let same =
     unpacked_is i numbers size (sym (ap (λ i. i.size) c.self.view_is)) c.self.inside.predictor c.row_and_stride-row.result.0 c.row_and_stride-row.result.1
     (sym (ap (λ i. i.predictor) c.self.view_is)) c.row_and_stride-row.ensures.row c.row_and_stride-row.ensures.stride in

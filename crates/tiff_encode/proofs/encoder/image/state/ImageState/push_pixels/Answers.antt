@@ -77,7 +77,7 @@ slice_bounds-pixels-end g c =
 
 pub returns-in-Planar : goal.returns-in-Planar
 returns-in-Planar g c =
-    let number = sample_number (type_size g.C.Inner.TiffValue.value_type) g.C.Inner.Sample.bits in
+    let number = sample_number (type_size g.T.TiffValue.value_type) g.T.Sample.bits in
     let numbers = map number c.args.samples.now in
     let p = image_page c.args.self.now in
     let r = rect_of c.args.chunk_area in
@@ -109,7 +109,7 @@ returns-in-Planar g c =
 
 pub returns-in_ok-extend_from_slice-in_default : goal.returns-in_ok-extend_from_slice-in_default
 returns-in_ok-extend_from_slice-in_default g c =
-    let number = sample_number (type_size g.C.Inner.TiffValue.value_type) g.C.Inner.Sample.bits in
+    let number = sample_number (type_size g.T.TiffValue.value_type) g.T.Sample.bits in
     let numbers = map number c.args.samples.now in
     let p = image_page c.args.self.now in
     let r = rect_of c.args.chunk_area in

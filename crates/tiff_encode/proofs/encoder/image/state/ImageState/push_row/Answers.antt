@@ -8,7 +8,7 @@ use Rattle.tiff_encode.proofs.encoder.image.state.ImageState.push_row.Goals as g
 
 pub returns : goal.returns
 returns g c =
-    let number = sample_number (type_size g.C.Inner.TiffValue.value_type) g.C.Inner.Sample.bits in
+    let number = sample_number (type_size g.T.TiffValue.value_type) g.T.Sample.bits in
     let p = image_page c.args.self.now in
     let r = rect_of c.args.chunk_area in
     let wide : c.from.result ≡ p.chunk_width =

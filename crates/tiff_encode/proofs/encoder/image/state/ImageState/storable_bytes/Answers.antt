@@ -7,7 +7,7 @@ use Rattle.tiff_encode.proofs.encoder.image.state.ImageState.storable_bytes.Goal
 
 pub returns-clause-storable : goal.returns-clause-storable
 returns-clause-storable g c =
-    let size = type_size g.C.Inner.TiffValue.value_type in
+    let size = type_size g.T.TiffValue.value_type in
     let i = c.args.self.now in
     let order : is_in_order i.form ≡ true = search rules in
     some_also c.chunk_bytes.result (λ b. StoresBytes i × (length b.now % size ≡ 0)) (λ b. IsPlain i

@@ -1,0 +1,7 @@
+use Rattle.tiff_encode.proofs.Image.Table.{Sides}
+use Rattle.tiff_encode.proofs.Open.SettingsLeft.{setting_left}
+use Rattle.tiff_encode.proofs.encoder.image.settings.DirectoryEncoder+W+K+ImageState+T.tiles.Goals as goal
+
+pub returns-clause-leaves : goal.returns-clause-leaves
+returns-clause-leaves g c m s =
+    setting_left (λ _. c.set_tiles-answer.new.image) c.set_tiles-answer.result c.args.self.now.encoder.now c.set_tiles-answer.new.self m c.fact_fits-2.ensures s c.args.self.now.state c.fact_fits.ensures (Sides c.args.width c.args.length) c.set_tiles-answer.ensures.answer

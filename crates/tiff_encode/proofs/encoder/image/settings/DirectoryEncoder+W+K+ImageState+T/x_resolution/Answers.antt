@@ -1,0 +1,7 @@
+use Rattle.tiff_encode.proofs.Image.Table.{Across}
+use Rattle.tiff_encode.proofs.Open.SettingsLeft.{setting_left}
+use Rattle.tiff_encode.proofs.encoder.image.settings.DirectoryEncoder+W+K+ImageState+T.x_resolution.Goals as goal
+
+pub returns-clause-leaves : goal.returns-clause-leaves
+returns-clause-leaves g c m s =
+    setting_left (λ _. c.set_x_resolution-answer.new.image) c.set_x_resolution-answer.result c.args.self.now.encoder.now c.set_x_resolution-answer.new.self m c.fact_fits-2.ensures s c.args.self.now.state c.fact_fits.ensures (Across (c.args.value.n, c.args.value.d)) c.set_x_resolution-answer.ensures.answer
