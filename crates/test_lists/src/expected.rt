@@ -90,7 +90,8 @@ impl<'a> Expected<'a> {
     // Appends the replies to the jobs after the one in which the sink failed. Each job is refused
     // as it begins, except a setting.
     fn push_later(&self, text: &mut String, failing: usize) -> Result<(), AllocError> {
-        for job in self.list.jobs.iter().skip(failing.saturating_add(1)) {
+        let jobs = self.list.jobs;
+        for job in &jobs[failing.saturating_add(1).min(jobs.len())..] {
             let is_finished = match parent_of(job) {
                 Some(parent) => parent < failing && self.finishes(parent),
                 None => false,

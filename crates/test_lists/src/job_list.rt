@@ -4,10 +4,11 @@ use crate::manner::Manner;
 use crate::record::{Kept, Record, Recorded};
 use crate::sink::ScriptedSink;
 use std::alloc::{AllocError, Global};
+use tiff_append::run::run_at;
 use tiff_base::error::TiffResult;
 use tiff_decode::reply::refusal_text;
-use tiff_encode::encoder::script::{Job, run_jobs_in};
-use tiff_encode::encoder::{TiffEncoder, TiffKind, TiffKindBig, TiffKindStandard};
+use tiff_encode::encoder::script::Job;
+use tiff_encode::encoder::{TiffKind, TiffKindBig, TiffKindStandard};
 use tiff_script::jobs::jobs_of;
 use tiff_script::replies::{lines_of_jobs, run_told};
 
@@ -49,11 +50,9 @@ fn run_behind<K: TiffKind>(
     link: u64,
     jobs: &[Job<'_>],
 ) -> TiffResult<(ScriptedSink, String)> {
-    let mut encoder = TiffEncoder::<ScriptedSink, K>::append_to(alloc, sink, link)?;
     let mut replies = Vec::new(alloc);
-    run_jobs_in(&mut encoder, jobs, &mut replies)?;
-    let lines = lines_of_jobs(alloc, &replies)?;
-    Ok((encoder.into_inner(), lines))
+    let sink = run_at::<ScriptedSink, K>(alloc, sink, link, jobs, &mut replies)?;
+    Ok((sink, lines_of_jobs(alloc, &replies)?))
 }
 
 // Runs jobs in a file of the kind `K`.

@@ -217,7 +217,23 @@ fn are_same(files: &mut MemoryFiles, names: &str) -> TiffResult<bool> {
     Ok(first.as_slice() == second.as_slice())
 }
 
-// Adds what a command line prints, standard error behind `2> `, and its status.
+// The texts of standard output and of standard error, which is marked by `2> `.
+fn printed(alloc: Global, out: Vec<u8>, err: Vec<u8>) -> TiffResult<String> {
+    let out = String::from_utf8(out)?;
+    let err = String::from_utf8(err)?;
+    let mark = if err.is_empty() { "" } else { "2> " };
+    Ok(format!(in alloc; "{out}{mark}{err}")?)
+}
+
+// What the words of a command line print, and their status.
+fn ran(alloc: Global, words: &[String], files: &mut MemoryFiles) -> TiffResult<(String, u8)> {
+    let mut out = Vec::new(alloc);
+    let mut err = Vec::new(alloc);
+    let status = run::<_, _, _, Brand>(alloc, words, files, &mut out, &mut err);
+    Ok((printed(alloc, out, err)?, status))
+}
+
+// Adds what a command line prints, and its status.
 fn add_command(report: &mut Report, files: &mut MemoryFiles, line: &str) -> TiffResult<()> {
     let alloc = report.alloc();
     if let Some(names) = line.strip_prefix("cmp ") {
@@ -226,13 +242,38 @@ fn add_command(report: &mut Report, files: &mut MemoryFiles, line: &str) -> Tiff
         return Ok(());
     }
     let words = words_of(alloc, line)?;
-    let mut out = Vec::new(alloc);
-    let mut err = Vec::new(alloc);
-    let status = run::<_, _, _, Brand>(alloc, words.as_slice(), files, &mut out, &mut err);
-    let (out, err) = (String::from_utf8(out)?, String::from_utf8(err)?);
-    let mark = if err.is_empty() { "" } else { "2> " };
-    report.command(line, &format!(in alloc; "{out}{mark}{err}")?, status);
+    let (text, status) = ran(alloc, words.as_slice(), files)?;
+    report.command(line, &text, status);
     Ok(())
+}
+
+// Adds ONE with six zeros behind it.
+fn add_long(files: &mut MemoryFiles) -> TiffResult<()> {
+    let mut long = files.read("ONE")?;
+    long.extend_from_slice(&[0; 6])?;
+    files.write("LONG", long.as_slice())
+}
+
+// Adds the files that are others with one byte changed.
+fn add_changed(files: &mut MemoryFiles) -> TiffResult<()> {
+    for (name, other, place, byte) in CHANGED {
+        let mut bytes = files.read(other)?;
+        if let Some(changed) = bytes.get_mut(place) {
+            *changed = byte;
+        }
+        files.write(name, bytes.as_slice())?;
+    }
+    Ok(())
+}
+
+// Adds the files that the command lines begin with.
+fn add_given(files: &mut MemoryFiles, stdin: &str) -> TiffResult<()> {
+    files.write("-", stdin.as_bytes())?;
+    files.write("IN", &[1, 2, 3])?;
+    files.write("BYTE", &[7])?;
+    files.write("ONE", ONE.as_slice())?;
+    add_long(files)?;
+    add_changed(files)
 }
 
 // The files that the command lines begin with.
@@ -241,20 +282,7 @@ fn given(alloc: Global, stdin: &str) -> TiffResult<MemoryFiles> {
         alloc,
         files: Vec::new(alloc),
     };
-    files.write("-", stdin.as_bytes())?;
-    files.write("IN", &[1, 2, 3])?;
-    files.write("BYTE", &[7])?;
-    files.write("ONE", ONE.as_slice())?;
-    let mut long = Vec::from_slice(alloc, ONE.as_slice())?;
-    long.extend_from_slice(&[0; 6])?;
-    files.write("LONG", long.as_slice())?;
-    for (name, other, place, byte) in CHANGED {
-        let mut bytes = files.read(other)?;
-        if let Some(changed) = bytes.get_mut(place) {
-            *changed = byte;
-        }
-        files.write(name, bytes.as_slice())?;
-    }
+    add_given(&mut files, stdin)?;
     Ok(files)
 }
 

@@ -45,17 +45,20 @@ fn page_line(alloc: Global, item: &PageItem) -> Result<String, AllocError> {
     }
 }
 
-// A line for each page of a file.
-fn page_lines<R: Source>(alloc: Global, mut decoder: Decoder<R>) -> TiffResult<Vec<String>> {
-    let mut lines = Vec::new(alloc);
-    let PageList { pages, end } = pages(&mut decoder)?;
+// Adds a line for each page of a file, and one for the error of its end.
+fn push_pages<R: Source>(
+    alloc: Global,
+    decoder: &mut Decoder<R>,
+    lines: &mut Vec<String>,
+) -> TiffResult<()> {
+    let PageList { pages, end } = pages(decoder)?;
     for item in pages.iter() {
         lines.push(page_line(alloc, item)?)?;
     }
-    if let Some(error) = end {
+    if let Some(error) = &end {
         lines.push(format!(in alloc; "{error}")?)?;
     }
-    Ok(lines)
+    Ok(())
 }
 
 // Writes an image in tiles.
@@ -119,8 +122,11 @@ fn add_tiles(report: &mut Report) -> TiffResult<()> {
     );
     report.line("directory", write_directory(&mut encoder));
     let file = encoder.into_inner().into_vec();
-    let decoder = Decoder::new(alloc, MemorySource::new(file))?;
-    report.line("pages", page_lines(alloc, decoder));
+    let mut decoder = Decoder::new(alloc, MemorySource::new(file))?;
+    let mut lines = Vec::new(alloc);
+    let listed = push_pages(alloc, &mut decoder, &mut lines);
+    report.line("pages", listed);
+    report.line("their lines", lines);
     Ok(())
 }
 
