@@ -26,7 +26,7 @@ if TYPE_CHECKING:
     from numpy.typing import NDArray
 
     from ._geo import Geo
-    from ._library import File
+    from ._library import File, PagePlan
 
 DESCRIPTION, SOFTWARE, SUB_IFDS, IMAGE_DEPTH = 270, 305, 330, 32997
 SUBFILE_TYPE, NODATA = 254, 42113
@@ -168,11 +168,31 @@ class PageFacts:
         """The number of layers of the image, by the tag ImageDepth: 1, or the page isn't read."""
         return self._first(IMAGE_DEPTH, 1)
 
-    def _first(self, number: int, default: int) -> int:
-        """Returns the first number of a tag of the page; raises the error of a refused page."""
+    def _first(self, number: int, default: int, name: str | None = None) -> int:
+        """Returns the first number of a tag of the page; raises the error of a refused page.
+
+        `name` is that of the number in a plan. The plan has most of these numbers, and the
+        directory lacks others: neither takes a call of the library.
+        """
         if self._listed.status:
             raise TiffError(self._listed.status, self._named)
-        return self.tags.first(number, default)
+        if number not in self.tags._codes:
+            return default
+        if name is None or self._plan is None:
+            return self.tags.first(number, default)
+        found: int = getattr(self._plan, name)
+        return found
+
+    @cached_property
+    def _plan(self) -> PagePlan | None:
+        """The plan of a page in memory whose color the library knows; None of another page."""
+        listed, planned = self._listed, self._planned
+        if listed.status or listed.color_status or self._is_by_tags or planned.is_by_ranges:
+            return None
+        try:
+            return planned.plan
+        except TiffError:
+            return None
 
     @property
     def compression(self) -> int:
@@ -182,27 +202,27 @@ class PageFacts:
     @cached_property
     def photometric(self) -> int:
         """What the samples of a pixel mean, by the tag PhotometricInterpretation."""
-        return member(PHOTOMETRIC, self._first(262, 0))
+        return member(PHOTOMETRIC, self._first(262, 0, "photometric"))
 
     @cached_property
     def planarconfig(self) -> int:
         """How the samples of a pixel lie, by the tag PlanarConfiguration."""
-        return member(PLANARCONFIG, self._first(284, 1))
+        return member(PLANARCONFIG, self._first(284, 1, "planar"))
 
     @cached_property
     def samplesperpixel(self) -> int:
         """The number of samples of a pixel, from the page's tags."""
-        return self._first(277, 1)
+        return self._first(277, 1, "samples")
 
     @cached_property
     def bitspersample(self) -> int:
         """The number of bits of a sample, from the page's tags."""
-        return self._first(258, 1)
+        return self._first(258, 1, "bits")
 
     @cached_property
     def sampleformat(self) -> int:
         """What the bits of a sample are, by the tag SampleFormat."""
-        return member(SAMPLEFORMAT, self._first(339, 1))
+        return member(SAMPLEFORMAT, self._first(339, 1, "sample_format"))
 
     @cached_property
     def extrasamples(self) -> tuple[int, ...]:
@@ -217,7 +237,7 @@ class PageFacts:
     @cached_property
     def predictor(self) -> int:
         """What is stored in place of the samples, by the tag Predictor."""
-        return member(PREDICTOR, self._first(317, 1))
+        return member(PREDICTOR, self._first(317, 1, "predictor"))
 
     @property
     def color(self) -> ColorKind:

@@ -59,9 +59,12 @@ class TiffPage(PageFacts):
     @cached_property
     def _lacks_chunks(self) -> bool:
         """Whether the file lacks a chunk: its offset or its length is 0."""
-        if self.tags._has_zero(OFFSETS[self.is_tiled]):
+        plan = self._plan
+        offsets = None if plan is None else plan.offsets_count
+        if self.tags._has_zero(OFFSETS[self.is_tiled], offsets):
             return True
-        return not self._is_alone and self.tags._has_zero(LENGTHS[self.is_tiled])
+        lengths = None if plan is None else plan.byte_counts_count
+        return not self._is_alone and self.tags._has_zero(LENGTHS[self.is_tiled], lengths)
 
     @cached_property
     def _is_as_stored(self) -> bool:

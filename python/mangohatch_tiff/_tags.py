@@ -238,11 +238,17 @@ class Tags:
         return {entry.number: Field(entry.type, entry.count) for entry in self._entries}
 
     @cached_property
+    def _codes(self) -> tuple[int, ...]:
+        """The numbers of the directory's tags, in the order of the file, each as often as there."""
+        return _directory.codes(self._file, _library.offset_of(self._page), self._order)
+
+    @cached_property
     def _twice(self) -> set[int]:
         """The numbers of the tags that the directory has twice."""
-        offset = _library.offset_of(self._page)
-        codes = Counter(_directory.codes(self._file, offset, self._order))
-        return {code for code, count in codes.items() if count > 1}
+        codes = self._codes
+        if len(set(codes)) == len(codes):
+            return set()
+        return {code for code, count in Counter(codes).items() if count > 1}
 
     def _field(self, key: object) -> Field | None:
         """Returns the type and the count of a tag, or None if the page doesn't have the tag."""
@@ -399,8 +405,13 @@ class Tags:
         with _library.named(self._index, number):
             return _library.unsigned_numbers(*self._in_memory(number), number)
 
-    def _has_zero(self, number: int) -> bool:
-        """Returns whether a zero is among the unsigned numbers of a tag. Long lists take numpy."""
+    def _has_zero(self, number: int, count: int | None) -> bool:
+        """Returns whether a zero is among the unsigned numbers of a tag. Long lists take numpy.
+
+        `count` is how many there are, if that is known.
+        """
+        if count is not None and count not in LONG_LISTS:
+            return 0 in self.told(number)
         field = self._field(number)
         if field is None or field.kind not in PLACES or field.count not in LONG_LISTS:
             return 0 in self.told(number)
