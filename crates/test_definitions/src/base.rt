@@ -1,5 +1,5 @@
-//! Worked examples of the definitions of `tiff_base`: numbers, headers, directories, fields, windows
-//! and PackBits lists.
+//! Worked examples of the definitions of `tiff_base`: numbers, headers, directories, fields,
+//! windows and PackBits lists.
 
 pub mod answers;
 pub mod directory;

@@ -9,7 +9,8 @@ use crate::source::ScriptedSource;
 use std::alloc::{AllocError, Global};
 use std::fmt::Write;
 
-// A color type, how many samples a pixel has, and how many of a number's 64 bits aren't in a sample.
+// A color type, how many samples a pixel has, and how many of a number's 64 bits aren't in a
+// sample.
 #[derive(Clone, Copy, Drop)]
 struct Color<'a> {
     name: &'a str,
@@ -153,7 +154,8 @@ fn bytes_wanted(alloc: Global, color: Color<'_>, shape: Shape) -> Result<Vec<u8>
     Ok(bytes)
 }
 
-// The reply to a step or to an end that did more than nothing, if there is one: then it was refused.
+// The reply to a step or to an end that did more than nothing, if there is one: then it was
+// refused.
 fn refusal_in(lines: &str) -> Option<&str> {
     for line in lines.lines() {
         if line != "nothing" {

@@ -68,8 +68,8 @@ fn run_kind<K: TiffKind>(
     }
 }
 
-/// Runs jobs over a sink with this manner, which has the file that they begin with. The sink records
-/// as much as `kept` says.
+/// Runs jobs over a sink with this manner, which has the file that they begin with. The sink
+/// records as much as `kept` says.
 pub fn run_over(
     alloc: Global,
     start: Start<'_>,
@@ -95,8 +95,8 @@ pub fn run_over(
     })
 }
 
-/// Runs the jobs of a text over a sink with this manner, which has the file that they begin with. Or
-/// returns the number, from 1, of the first line that is no job.
+/// Runs the jobs of a text over a sink with this manner, which has the file that they begin with.
+/// Or returns the number, from 1, of the first line that is no job.
 pub fn run_text(
     alloc: Global,
     start: Start<'_>,

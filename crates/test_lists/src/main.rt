@@ -1,6 +1,6 @@
 //! Makes the decoder calls, runs the writer jobs and makes the calls of the library that standard
-//! input lists, and prints each line with its reply. Or compares the replies of the named lists with
-//! the replies in those lists.
+//! input lists, and prints each line with its reply. Or compares the replies of the named lists
+//! with the replies in those lists.
 #![tactic(auto)]
 
 mod asked;

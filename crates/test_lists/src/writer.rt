@@ -17,8 +17,8 @@ pub struct Writer {
     alloc: Global,
     list: String,
     big: bool,
-    // The file behind which the jobs go on, and the offset of its last link. Without one, they write
-    // a new file.
+    // The file behind which the jobs go on, and the offset of its last link. Without one, they
+    // write a new file.
     file: Vec<u8>,
     link: Option<u64>,
     // The bytes written by the run at the list's end, and the bytes written last.

@@ -133,8 +133,8 @@ const CHANGED: [(&str, &str, usize, u8); 5] = [
     (HOLED, "ONE", 198, 4), // the link, to 67108864
 ];
 
-// What standard input has, and command lines. `cmp` compares two files. BYTE has the byte 7, IN three
-// bytes.
+// What standard input has, and command lines. `cmp` compares two files. BYTE has the byte 7, IN
+// three bytes.
 const COMMANDS: [(&str, &str); 3] = [
     (
         "",

@@ -49,8 +49,8 @@ fn add_directory<W: Sink, K: TiffKind>(
     directory.finish()
 }
 
-// Writes a directory of given fields out of the chain, and compares its offset with one that is made
-// of its pointer and the fields.
+// Writes a directory of given fields out of the chain, and compares its offset with one that is
+// made of its pointer and the fields.
 fn add_offset<W: Sink>(
     report: &mut Report,
     encoder: &mut TiffEncoder<W>,

@@ -118,8 +118,8 @@ fn put(buffer: &mut DecodingBuffer<'_>, n: u16) {
     }
 }
 
-// Makes a list of two samples, and adds the length and the bytes of a buffer from the second one on,
-// after a number was put there.
+// Makes a list of two samples, and adds the length and the bytes of a buffer from the second one
+// on, after a number was put there.
 fn add_placed(told: &mut Told, list: &mut DecodingResult) -> TiffResult<()> {
     *list = DecodingResult::U16(vec![in told.alloc(); 0; 2]?);
     let mut buffer = list.as_buffer(1);

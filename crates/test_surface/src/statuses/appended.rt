@@ -105,8 +105,8 @@ fn print_family(rt: &HostRuntime) -> io::Result<()> {
     print_directories(rt, &file[..len.min(2000)])
 }
 
-// Prints the answers for a short buffer, for pages that are refused behind one that is well, and for
-// a file whose directory links to itself.
+// Prints the answers for a short buffer, for pages that are refused behind one that is well, and
+// for a file whose directory links to itself.
 fn print_refused_pages(rt: &HostRuntime) -> io::Result<()> {
     let mut file = [0u8; 300];
     let len = print_made(rt, 42, &[GRAY], &mut file)?;

@@ -235,8 +235,8 @@ fn print_rewritten(
 }
 
 /// Prints where the chunk of page 0 is, and a chunk that isn't there; the bytes of the chunk with
-/// other samples, too few samples and too few bytes; and those of three big-endian numbers, stored as
-/// differences with white as zero.
+/// other samples, too few samples and too few bytes; and those of three big-endian numbers, stored
+/// as differences with white as zero.
 pub fn print_rewrites(rt: &HostRuntime, file: &[u8]) -> io::Result<()> {
     print_place(rt, file, &PLAN, 0)?;
     print_place(rt, file, &PLAN, 1)?;

@@ -138,8 +138,8 @@ const FAILED: [NewPage<'static>; 4] = [
     },
 ];
 
-/// Two pages, and between them two in the SubIFDs of the first one, and one in those of the second of
-/// these.
+/// Two pages, and between them two in the SubIFDs of the first one, and one in those of the second
+/// of these.
 pub const FAMILY: [NewPage<'static>; 5] = [
     GRAY,
     NewPage { parent: 1, ..GRAY },
@@ -234,8 +234,8 @@ fn print_family(rt: &HostRuntime, version: u16) -> io::Result<()> {
     print_directories(rt, &buffer[..len.min(2000)])
 }
 
-// Prints the answers to a page that is its own parent, to a parent with SubIFDs of its own, and to a
-// page with a parent that the encoder refuses.
+// Prints the answers to a page that is its own parent, to a parent with SubIFDs of its own, and to
+// a page with a parent that the encoder refuses.
 fn print_orphans(rt: &HostRuntime) -> io::Result<()> {
     print_second(rt, &NewPage { parent: 2, ..GRAY })?;
     let mut buffer = [0u8; 600];

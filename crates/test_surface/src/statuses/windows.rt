@@ -47,7 +47,8 @@ fn print_parts(rt: &HostRuntime, seen: &Windows<'_>) -> io::Result<()> {
     println!(rt; "read_planned_chunk_in: {status}, {chunk:?}, {wanted:?}")
 }
 
-// Prints what is read of so many chunks, from the first one on, of a file of which these windows are.
+// Prints what is read of so many chunks, from the first one on, of a file of which these windows
+// are.
 fn print_range(rt: &HostRuntime, seen: &Windows<'_>, count: u32) -> io::Result<()> {
     let (mut chunks, mut wanted) = ([0u8; 14], NOTHING);
     let status = tiff_ffi::read_planned_chunks_in(
@@ -85,8 +86,8 @@ fn print_tags(rt: &HostRuntime, seen: &Windows<'_>) -> io::Result<()> {
     println!(rt; "tag_bytes_in: {status}, {written}, {bytes:?}, {wanted:?}")
 }
 
-/// Prints the calls on a file of which nothing, its header, all but its pixels, its whole and windows
-/// in disorder are seen.
+/// Prints the calls on a file of which nothing, its header, all but its pixels, its whole and
+/// windows in disorder are seen.
 pub fn print_windows(rt: &HostRuntime, file: &[u8]) -> io::Result<()> {
     let len = file.len() as u64;
     let at = file.len().min(36);

@@ -46,7 +46,8 @@ fn print_frame(rt: &HostRuntime, buffer: &mut [u8]) -> io::Result<()> {
     println!(rt; "image_frame: {status}, {frame:?}")
 }
 
-/// Prints the results of writing what the file has around its samples, with room for it and without.
+/// Prints the results of writing what the file has around its samples, with room for it and
+/// without.
 pub fn print_frames(rt: &HostRuntime) -> io::Result<()> {
     print_frame(rt, &mut [0u8; 300])?;
     print_frame(rt, &mut [0u8; 100])
