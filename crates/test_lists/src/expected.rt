@@ -3,7 +3,7 @@
 use crate::job_lines::{begun_too_late, failed, line_count, parent_of, step_count, writes};
 use crate::job_list::{JobList, run_text};
 use crate::manner::{Appetite, Manner};
-use std::alloc::AllocError;
+use std::alloc::{AllocError, Global};
 use tiff_encode::encoder::script::Job;
 
 // The number of calls of the sink and the number of reply lines at the end of a job.
@@ -33,6 +33,20 @@ fn push_lines(text: &mut String, lines: &[String]) -> Result<(), AllocError> {
         push_line(text, line)?;
     }
     Ok(())
+}
+
+// The lines before a step that failed, the steps of the rest that write nothing, and the end that
+// discards the directory.
+fn kept_steps(alloc: Global, before: &[String], rest: &[String]) -> Result<String, AllocError> {
+    let mut text = String::new(alloc);
+    push_lines(&mut text, before)?;
+    for line in rest {
+        if !writes(line) {
+            push_line(&mut text, line)?;
+        }
+    }
+    push_line(&mut text, "discard")?;
+    Ok(text)
 }
 
 // The lines from `from` to `to`, or none if there are fewer lines.
@@ -110,18 +124,11 @@ impl<'a> Expected<'a> {
         from: usize,
     ) -> Result<Vec<String>, AllocError> {
         let alloc = self.list.alloc;
-        let mut replies = Vec::new(alloc);
-        let mut text = String::new(alloc);
-        push_lines(&mut text, before)?;
-        for line in rest {
-            if !writes(line) {
-                push_line(&mut text, line)?;
-            }
-        }
-        push_line(&mut text, "discard")?;
+        let text = kept_steps(alloc, before, rest)?;
         let Ok(run) = run_text(alloc, self.list.start, &text, Manner::plain(Appetite::All))? else {
-            return Ok(replies);
+            return Ok(Vec::new(alloc));
         };
+        let mut replies = Vec::new(alloc);
         for reply in run.text.as_str().lines().skip(from) {
             replies.push(String::from_str(alloc, reply)?)?;
         }

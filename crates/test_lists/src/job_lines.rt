@@ -73,6 +73,23 @@ fn axes(line: &str) -> Option<(&str, &str, &str)> {
     Some((unit, x, y))
 }
 
+// Appends the steps of a line that sets a resolution for each axis: the unit, and both numbers.
+fn push_axes(
+    alloc: Global,
+    lines: &mut Vec<String>,
+    words: (&str, &str, &str),
+) -> Result<(), AllocError> {
+    let (unit, x, y) = words;
+    for (step, word) in [
+        ("resolution_unit", unit),
+        ("x_resolution", x),
+        ("y_resolution", y),
+    ] {
+        lines.push(format!(in alloc; "{step} {word}")?)?;
+    }
+    Ok(())
+}
+
 /// The lines that describe jobs, without comments; one for each step, so three for the line of a
 /// resolution for each axis.
 pub fn told_lines(alloc: Global, text: &str) -> Result<Vec<String>, AllocError> {
@@ -81,10 +98,8 @@ pub fn told_lines(alloc: Global, text: &str) -> Result<Vec<String>, AllocError> 
         if line.is_empty() || line.starts_with('#') {
             continue;
         }
-        if let Some((unit, x, y)) = axes(line) {
-            lines.push(format!(in alloc; "resolution_unit {unit}")?)?;
-            lines.push(format!(in alloc; "x_resolution {x}")?)?;
-            lines.push(format!(in alloc; "y_resolution {y}")?)?;
+        if let Some(words) = axes(line) {
+            push_axes(alloc, &mut lines, words)?;
         } else {
             lines.push(String::from_str(alloc, line)?)?;
         }
