@@ -423,9 +423,8 @@ impl<R: Source> Decoder<R> {
         self.get_tag(tag)?.into_u64()
     }
 
-    /// Reads the bits of the 32-bit floating-point number of a required tag. Returns
-    /// `RequiredTagNotFound` if the directory does not have the tag, else the errors of `find_tag`
-    /// and of `Value::into_f32`.
+    /// Reads the bits of the 32-bit floating-point number of a required tag. Errors:
+    /// `RequiredTagNotFound` without the tag, else those of `find_tag` and `Value::into_f32`.
     #[tactic(auto, using(crate::proofs::Required::unconverted, crate::proofs::Required::required_by, crate::proofs::Required::value_found), unfolding(crate::specs::Outcome::get_tag_f32, crate::specs::Outcome::get_tag))]
     pub fn get_tag_f32(&mut self, tag: Tag) -> TiffResult<Bits32>
         ensures read { TagsRead (outcome.WantsTag self.old tag) (bits_32) (outcome.get_tag_f32 self.old tag)
@@ -435,9 +434,8 @@ impl<R: Source> Decoder<R> {
         self.get_tag(tag)?.into_f32()
     }
 
-    /// Reads the bits of the 64-bit floating-point number of a required tag. Returns
-    /// `RequiredTagNotFound` if the directory does not have the tag, else the errors of `find_tag`
-    /// and of `Value::into_f64`.
+    /// Reads the bits of the 64-bit floating-point number of a required tag. Errors:
+    /// `RequiredTagNotFound` without the tag, else those of `find_tag` and `Value::into_f64`.
     #[tactic(auto, using(crate::proofs::Required::unconverted, crate::proofs::Required::required_by, crate::proofs::Required::value_found), unfolding(crate::specs::Outcome::get_tag_f64, crate::specs::Outcome::get_tag))]
     pub fn get_tag_f64(&mut self, tag: Tag) -> TiffResult<Bits64>
         ensures read { TagsRead (outcome.WantsTag self.old tag) (bits_64) (outcome.get_tag_f64 self.old tag)
@@ -483,9 +481,8 @@ impl<R: Source> Decoder<R> {
         self.get_tag(tag)?.into_u64_vec(alloc)
     }
 
-    /// Reads the bits of the 32-bit floating-point numbers of a required tag. Returns
-    /// `RequiredTagNotFound` if the directory does not have the tag, else the errors of `find_tag`
-    /// and of `Value::into_f32_vec`.
+    /// Reads the bits of the 32-bit floating-point numbers of a required tag. Errors:
+    /// `RequiredTagNotFound` without the tag, else those of `find_tag` and `Value::into_f32_vec`.
     #[tactic(auto, using(crate::proofs::Required::unconverted, crate::proofs::Required::required_by, crate::proofs::Required::value_found), unfolding(crate::specs::Outcome::get_tag_f32_vec, crate::specs::Outcome::get_tag))]
     pub fn get_tag_f32_vec(&mut self, tag: Tag) -> TiffResult<Vec<Bits32>>
         ensures read { TagsRead (outcome.WantsTag self.old tag) (λ v. map bits_32 v.items)
@@ -496,9 +493,8 @@ impl<R: Source> Decoder<R> {
         self.get_tag(tag)?.into_f32_vec(alloc)
     }
 
-    /// Reads the bits of the 64-bit floating-point numbers of a required tag. Returns
-    /// `RequiredTagNotFound` if the directory does not have the tag, else the errors of `find_tag`
-    /// and of `Value::into_f64_vec`.
+    /// Reads the bits of the 64-bit floating-point numbers of a required tag. Errors:
+    /// `RequiredTagNotFound` without the tag, else those of `find_tag` and `Value::into_f64_vec`.
     #[tactic(auto, using(crate::proofs::Required::unconverted, crate::proofs::Required::required_by, crate::proofs::Required::value_found), unfolding(crate::specs::Outcome::get_tag_f64_vec, crate::specs::Outcome::get_tag))]
     pub fn get_tag_f64_vec(&mut self, tag: Tag) -> TiffResult<Vec<Bits64>>
         ensures read { TagsRead (outcome.WantsTag self.old tag) (λ v. map bits_64 v.items)
@@ -691,9 +687,8 @@ impl<'a, R: Source> IfdDecoder<'a, R> {
         self.get_tag(tag)?.into_u64()
     }
 
-    /// Reads the bits of the 32-bit floating-point number of a required tag. Returns
-    /// `RequiredTagNotFound` if the directory does not have the tag, else the errors of `find_tag`
-    /// and of `Value::into_f32`.
+    /// Reads the bits of the 32-bit floating-point number of a required tag. Errors:
+    /// `RequiredTagNotFound` without the tag, else those of `find_tag` and `Value::into_f32`.
     #[tactic(auto, using(crate::proofs::Required::unconverted, crate::proofs::Required::required_by, crate::proofs::Required::value_found), unfolding(crate::specs::Outcome::get_tag_f32, crate::specs::Outcome::get_tag))]
     pub fn get_tag_f32(&mut self, tag: Tag) -> TiffResult<Bits32>
         ensures read { ReadsTags (outcome.WantsTag (reading self.old) tag) bits_32
@@ -703,9 +698,8 @@ impl<'a, R: Source> IfdDecoder<'a, R> {
         self.get_tag(tag)?.into_f32()
     }
 
-    /// Reads the bits of the 64-bit floating-point number of a required tag. Returns
-    /// `RequiredTagNotFound` if the directory does not have the tag, else the errors of `find_tag`
-    /// and of `Value::into_f64`.
+    /// Reads the bits of the 64-bit floating-point number of a required tag. Errors:
+    /// `RequiredTagNotFound` without the tag, else those of `find_tag` and `Value::into_f64`.
     #[tactic(auto, using(crate::proofs::Required::unconverted, crate::proofs::Required::required_by, crate::proofs::Required::value_found), unfolding(crate::specs::Outcome::get_tag_f64, crate::specs::Outcome::get_tag))]
     pub fn get_tag_f64(&mut self, tag: Tag) -> TiffResult<Bits64>
         ensures read { ReadsTags (outcome.WantsTag (reading self.old) tag) bits_64
@@ -751,9 +745,8 @@ impl<'a, R: Source> IfdDecoder<'a, R> {
         self.get_tag(tag)?.into_u64_vec(alloc)
     }
 
-    /// Reads the bits of the 32-bit floating-point numbers of a required tag. Returns
-    /// `RequiredTagNotFound` if the directory does not have the tag, else the errors of `find_tag`
-    /// and of `Value::into_f32_vec`.
+    /// Reads the bits of the 32-bit floating-point numbers of a required tag. Errors:
+    /// `RequiredTagNotFound` without the tag, else those of `find_tag` and `Value::into_f32_vec`.
     #[tactic(auto, using(crate::proofs::Required::unconverted, crate::proofs::Required::required_by, crate::proofs::Required::value_found), unfolding(crate::specs::Outcome::get_tag_f32_vec, crate::specs::Outcome::get_tag))]
     pub fn get_tag_f32_vec(&mut self, tag: Tag) -> TiffResult<Vec<Bits32>>
         ensures read { ReadsTags (outcome.WantsTag (reading self.old) tag) (λ v. map bits_32 v.items)
@@ -764,9 +757,8 @@ impl<'a, R: Source> IfdDecoder<'a, R> {
         self.get_tag(tag)?.into_f32_vec(alloc)
     }
 
-    /// Reads the bits of the 64-bit floating-point numbers of a required tag. Returns
-    /// `RequiredTagNotFound` if the directory does not have the tag, else the errors of `find_tag`
-    /// and of `Value::into_f64_vec`.
+    /// Reads the bits of the 64-bit floating-point numbers of a required tag. Errors:
+    /// `RequiredTagNotFound` without the tag, else those of `find_tag` and `Value::into_f64_vec`.
     #[tactic(auto, using(crate::proofs::Required::unconverted, crate::proofs::Required::required_by, crate::proofs::Required::value_found), unfolding(crate::specs::Outcome::get_tag_f64_vec, crate::specs::Outcome::get_tag))]
     pub fn get_tag_f64_vec(&mut self, tag: Tag) -> TiffResult<Vec<Bits64>>
         ensures read { ReadsTags (outcome.WantsTag (reading self.old) tag) (λ v. map bits_64 v.items)
