@@ -16,9 +16,9 @@ use Rattle.tiff_value.specs.Differences.{differences}
 use Rattle.tiff_page.specs.Layout.{color_of}
 use Rattle.tiff_page.specs.Page.{PageRecord}
 use Rattle.tiff_page.specs.Rect.{rect}
-use Rattle.tiff_encode.specs.Model.{In, SuppliedField, Model, FileContains, Grows, header_model}
-use Rattle.tiff_encode.specs.Laws.{AreListable, OpsFit, IsListable}
-use Rattle.tiff_encode.specs.WriteOps.{WriteOp, Appended, Supplied, Listed, Linked, bytes_after, model_after}
+use Rattle.tiff_value.specs.Model.{In, SuppliedField, Model, FileContains, Grows, header_model}
+use Rattle.tiff_value.specs.FileLaws.{AreListable, OpsFit, IsListable}
+use Rattle.tiff_value.specs.WriteOps.{WriteOp, Appended, Supplied, Listed, Linked, bytes_after, model_after}
 use Rattle.tiff_encode.specs.Shows.{Image, shown_columns, shown_at, Shows}
 use Rattle.tiff_encode.specs.Machine.{FileState}
 use Rattle.tiff_encode.specs.Chunks.{is_left, next_chunk_sample_count, sample_in}
@@ -27,14 +27,14 @@ use Rattle.tiff_encode.specs.Calls.{finish, finish_image, first_tags, image_dire
 use Rattle.tiff_encode.specs.Held.{image_with}
 use Rattle.tiff_encode.specs.Open.{RecordsImage, HoldsEnded}
 use Rattle.tiff_encode.specs.Stored.{unpacked_chunk}
-use Rattle.tiff_encode.proofs.WriteOps.{ops_stand}
-use Rattle.tiff_encode.specs.lemmas.Header.{header_stands}
+use Rattle.tiff_value.specs.lemmas.File.WriteOps.{ops_stand}
+use Rattle.tiff_value.specs.lemmas.File.Header.{header_stands}
 use Rattle.tiff_encode.proofs.Shown.Images.{images_show_by}
 use Rattle.tiff_encode.proofs.Open.Begun.{begins_open}
 use Rattle.tiff_encode.proofs.Open.Chunks.{chunks_keep_open}
 use Rattle.tiff_encode.proofs.Open.Ends.{ends_held, grown_ended, ended_shown_by}
 use Rattle.tiff_encode.proofs.PageTold.Page.{page_told}
-use Rattle.tiff_encode.specs.lemmas.Slices.{ok_inj}
+use Rattle.tiff_base.specs.lemmas.Slices.{ok_inj}
 use Rattle.test_definitions.specs.Encode.Calls.{header, with_fields}
 use Rattle.test_definitions.specs.Encode.Causes.{new_file, gray}
 use Rattle.test_definitions.specs.Files.{gray_file}

@@ -31,7 +31,7 @@ use Rattle.tiff_decode.specs.Outcome as outcome
 use Rattle.tiff_encode.specs.Calls.{image_directory, extra_directory, write_entry, write_entry_buf, write_entry_bytes, write_tag, write_tag_buf, write_data, write_data_buf, extend_from, new_offset, set_parent, finish, first_tags, new_image, extra_samples, set_rows_per_strip, tiles, planar, resolution, x_resolution, y_resolution, resolution_unit, write_strip, write_chunk, last_tags, finish_image, write_image_data, write_image}
 use Rattle.tiff_encode.specs.Causes.{begin_cause, write_tag_cause, write_buf_cause, write_entry_bytes_cause, write_data_cause, write_data_buf_cause, finish_cause, offset_cause, image_cause, new_image_cause, extra_samples_cause, rows_per_strip_cause, tiles_cause, planar_cause, resolution_cause, one_resolution_cause, resolution_unit_cause, write_chunk_cause, write_strip_cause, write_image_data_cause}
 use Rattle.tiff_encode.specs.Chunks.{next_chunk_sample_count, next_strip_sample_count, cut_out, parts_left, sample_in}
-use Rattle.tiff_encode.specs.FileBytes.{directory_bytes}
+use Rattle.tiff_value.specs.FileBytes.{directory_bytes}
 use Rattle.tiff_encode.specs.Placing.{field_test, end_test}
 use Rattle.tiff_encode.specs.Stored.{unpacked_chunk}
 

@@ -12,8 +12,8 @@ pub use Rattle.tiff_decode.specs.Step
 pub use Rattle.tiff_decode.specs.Steps
 pub use Rattle.tiff_decode.specs.Result
 pub use Rattle.tiff_decode.specs.Lending
-pub use Rattle.tiff_encode.specs.FileBytes
-pub use Rattle.tiff_encode.specs.Model
+pub use Rattle.tiff_value.specs.FileBytes
+pub use Rattle.tiff_value.specs.Model
 pub use Rattle.tiff_encode.specs.Shows
 pub use Rattle.tiff_encode.specs.Encoder
 pub use Rattle.tiff_encode.specs.Jobs

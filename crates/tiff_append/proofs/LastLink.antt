@@ -13,12 +13,12 @@ use Rattle.tiff_base.specs.Number.{number_at}
 use Rattle.tiff_ifd.specs.Chain.{Chain, chain, link_from}
 use Rattle.tiff_ifd.specs.IfdChainWalk.{Walked, ChainBegins, ChainEnds}
 use Rattle.tiff_ifd.specs.IfdChainWalk as walk
-use Rattle.tiff_encode.specs.FileBytes.{offset_len}
+use Rattle.tiff_value.specs.FileBytes.{offset_len}
 use Rattle.tiff_encode.specs.LongerChain.{chain_behind, last_link_at, link_behind, link_offset_at, unless_cut}
-use Rattle.tiff_encode.specs.Model.{header_link}
+use Rattle.tiff_value.specs.Model.{header_link}
 use Rattle.tiff_encode.specs.lemmas.GoingOn.{number_within, some_offset}
 use Rattle.tiff_encode.specs.lemmas.LongerChain.{link_parts}
-use Rattle.tiff_encode.specs.lemmas.Slices.{ok_inj}
+use Rattle.tiff_base.specs.lemmas.Slices.{ok_inj}
 use Rattle.tiff_append.specs.LastLink.{last_by, last_in}
 
 -- ---- within the file

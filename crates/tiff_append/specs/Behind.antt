@@ -7,7 +7,7 @@ use Rattle.tiff_base.specs.declared.tags.FileKind.{FileKind}
 use Rattle.tiff_encode.specs.declared.encoder.script.Job.{Job}
 use Rattle.tiff_encode.specs.declared.encoder.script.JobReply.{JobReply}
 use Rattle.tiff_encode.specs.Appending.{continued_file}
-use Rattle.tiff_encode.specs.FileBytes.{offset_len}
+use Rattle.tiff_value.specs.FileBytes.{offset_len}
 use Rattle.tiff_encode.specs.Machine.{FileState}
 use Rattle.tiff_encode.specs.Running.{JobsMove}
 use Rattle.tiff_append.specs.declared.sink.Addition.{Addition}
@@ -43,8 +43,8 @@ pub record RunsAt (kind : FileKind) (bytes : List ℕ) (q : ℕ) (jobs : List Jo
   pub left_is : left ≡ last.bytes
 
 -- What is written behind a file whose last link is at q, is what `run_jobs_in` leaves of an encoder
--- that goes on behind it: the file of the encoder is the former one with the new bytes of that link,
--- and the other bytes behind it.
+-- that goes on behind it: the file of the encoder is the former one with the new bytes of that
+-- link, and the other bytes behind it.
 pub record RunsBehind (kind : FileKind) (file : List ℕ) (q : ℕ) (jobs : List Job)
     (earlier all : List JobReply) (link more : List ℕ) : Type 0 where
   pub runs : RunsAt kind file q jobs earlier all (added_to file q link more)

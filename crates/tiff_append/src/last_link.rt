@@ -7,9 +7,9 @@ ghost use Rattle.tiff_base.specs.Directory.{count_width, entry_len, offset_width
 ghost use Rattle.tiff_base.specs.Number.{number_at};
 ghost use Rattle.tiff_ifd.specs.Chain.{chain, link_from};
 ghost use Rattle.tiff_ifd.specs.IfdChainWalk.{ChainBegins, ChainEnds};
-ghost use Rattle.tiff_encode.specs.FileBytes.{count_len, offset_len};
+ghost use Rattle.tiff_value.specs.FileBytes.{count_len, offset_len};
 ghost use Rattle.tiff_encode.specs.LongerChain.{last_link_at, link_offset_at};
-ghost use Rattle.tiff_encode.specs.Model.{header_link};
+ghost use Rattle.tiff_value.specs.Model.{header_link};
 ghost use Rattle.tiff_append.specs.LastLink.{is_unlinked, kind_by, last_in, last_link, little_kind, order_and_kind, order_by, unlinked};
 
 use std::alloc::Global;

@@ -1,7 +1,7 @@
 //! Jobs of an encoder behind a file.
 
 ghost use Rattle.std.specs.Prelude.{length, MatchResult};
-ghost use Rattle.tiff_encode.specs.FileBytes.{offset_len};
+ghost use Rattle.tiff_value.specs.FileBytes.{offset_len};
 ghost use Rattle.tiff_append.specs.Behind.{RefusesLink, RunsAt, RunsBehind};
 
 use crate::last_link::{LastLink, link_size};

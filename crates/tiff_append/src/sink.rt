@@ -59,8 +59,9 @@ impl<'a> BehindSink<'a> {
     ghost use Rattle.tiff_append.specs.Behind.{IsAddedTo, RefusesLink, behind_contents};
     ghost use Rattle.tiff_append.specs.Source.{added_bytes};
 
-    /// Makes a sink that contains a file, of which the `size` bytes at an offset are the link that it
-    /// overwrites. Errors: `IoError(InvalidInput)` if the link isn't within the file; `OutOfMemory`.
+    /// Makes a sink that contains a file, of which the `size` bytes at an offset are the link that
+    /// it overwrites. Errors: `IoError(InvalidInput)` if the link isn't within the file;
+    /// `OutOfMemory`.
     #[tactic(auto, using(crate::specs::lemmas::Behind::first_added))]
     pub fn new(alloc: Global, file: &'a [u8], at: usize, size: usize) -> TiffResult<Self>
         ensures contents { IfOk result (λ s. behind_contents s ≡ file.now) }
@@ -145,7 +146,7 @@ impl<'a> BehindSink<'a> {
 impl Sink for BehindSink<'_> {
     ghost use Rattle.std.proofs.Common.{arith, length-append};
     ghost use Rattle.tiff_base.specs.SourceAndSink.{put};
-    ghost use Rattle.tiff_encode.specs.lemmas.Slices.{length_put};
+    ghost use Rattle.tiff_base.specs.lemmas.Slices.{length_put};
     ghost use Rattle.tiff_append.specs.Behind.{behind_contents};
 
     ghost contents = { behind_contents };

@@ -30,8 +30,8 @@ impl<'a> AddedSource<'a> {
         AddedSource::new(file, file.len(), &[], &[])
     }
 
-    /// Makes the source of a file with these bytes over its link at an offset, and more bytes behind
-    /// it.
+    /// Makes the source of a file with these bytes over its link at an offset, and more bytes
+    /// behind it.
     #[tactic(auto, using(crate::proofs::Added::length_short, crate::proofs::Added::octets_added))]
     pub(crate) fn new(file: &'a [u8], at: usize, link: &'a [u8], more: &'a [u8]) -> Self
         requires within { at + length link.now ≤ length file.now }

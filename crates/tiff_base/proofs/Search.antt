@@ -11,7 +11,7 @@ use Rattle.std.specs.List.Sorted.{IsStrictlySortedBy}
 use Rattle.std.specs.Map.{keys_of}
 use Rattle.std.specs.Ordering.{nat_cmp}
 use Rattle.tiff_base.specs.Field.{Field}
-use Rattle.tiff_base.specs.Place.{IsAscending, IsGapFor, IsPlaceOf, key_at}
+use Rattle.tiff_base.specs.Place.{IsAscending, IsPlaceOf, key_at}
 
 -- ---- numbers that ascend
 
@@ -143,12 +143,3 @@ module _ (number : ℕ) (entries : List (ℕ × Field)) (sorted : IsAscending en
   pub here : Equal ≡ nat_cmp key number → IsPlaceOf number entries middle
   here c =
       record { within = omega (arith, some, h.within); same = sym found ∙ ranked key number Equal c }
-
-pub gap : (number : ℕ) (entries : List (ℕ × Field)) (before now low high : ℕ)
-    → Halves number entries before now low high → high ≤ low
-    → IsGapFor number entries low
-gap number entries before now low high h met = record {
-  within = omega (arith, h.order, h.within, met);
-  smaller_before = h.smaller;
-  greater_after = λ i l m. h.greater i (omega (arith, l, met)) m;
-}

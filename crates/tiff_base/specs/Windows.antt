@@ -41,8 +41,8 @@ abbrev pub AreApart : List Window → Type 0
 AreApart windows = (i j : ℕ) (d : Window) → i < j → j < length windows
     → end_of (get_or windows i d) ≤ (get_or windows j d).offset
 
--- the offset behind a window within `len` bytes that begins at or behind an offset; none for another
--- window
+-- the offset behind a window within `len` bytes that begins at or behind an offset; none for
+-- another window
 abbrev pub behind_window : ℕ → Option ℕ → Window → Option ℕ
 behind_window len None w = None
 behind_window len (Some end) w =

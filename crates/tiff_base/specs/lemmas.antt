@@ -9,3 +9,4 @@ pub mod Fits
 pub mod Maps
 pub mod MemoryFaults
 pub mod Seen
+pub mod Slices

@@ -266,8 +266,8 @@ impl Directory {
         self.entries.reserve(1)
     }
 
-    /// Sets the field of a tag number. After an error the directory is unchanged. A tag that has a field
-    /// is set without an error.
+    /// Sets the field of a tag number. After an error the directory is unchanged. A tag that has a
+    /// field is set without an error.
     #[tactic(auto, using(crate::proofs::Places::inserted_in_gap, crate::proofs::Places::replaced_at))]
     pub fn insert(&mut self, tag: u16, entry: Entry) -> Result<(), AllocError>
         ensures ok { OnOk result

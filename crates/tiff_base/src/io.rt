@@ -124,8 +124,8 @@ pub trait Sink: Drop {
         ensures failed { IfErr result (λ e. (failures self.new ≡ failures self.old + 1)
             × (fault self.new ≡ Some e)) };
 
-    /// Makes room for `len` bytes that will be appended, if the sink can do so at once. It changes no
-    /// byte, and may do nothing.
+    /// Makes room for `len` bytes that will be appended, if the sink can do so at once. It changes
+    /// no byte, and may do nothing.
     fn reserve(&mut self, len: u64)
         ensures bytes { contents self.new ≡ contents self.old }
         ensures failures { failures self.new ≡ failures self.old }

@@ -114,8 +114,8 @@ pub struct OrderedWindows<'a> {
 }
 
 impl<'a> Windows<'a> {
-    /// Returns the windows as ones in order: they lie within the file, and follow one another without
-    /// an overlap. If they do, there is a file that they are of. Returns `None` for others.
+    /// Returns the windows as ones in order: they lie within the file, and follow one another
+    /// without an overlap. If they do, there is a file that they are of. Returns `None` for others.
     pub fn in_order(&self) -> Option<OrderedWindows<'a>>
         ensures order { MatchOption result
             (behind_windows self.now.len self.now.windows.now ≡ None)
@@ -175,8 +175,8 @@ impl OrderedWindows<'_> {
     }
 }
 
-/// Windows of a file as a source. A read that begins outside them fails; the bytes that the last such
-/// read asked for are kept as wanted.
+/// Windows of a file as a source. A read that begins outside them fails; the bytes that the last
+/// such read asked for are kept as wanted.
 #[derive(Drop)]
 pub struct WindowSource<'a, F: SeenFile> {
     windows: OrderedWindows<'a>,
@@ -190,7 +190,8 @@ pub struct WindowSource<'a, F: SeenFile> {
 }
 
 impl<'a, F: SeenFile> WindowSource<'a, F> {
-    /// Makes the source of these windows. The file that they are of is the one that only contracts see.
+    /// Makes the source of these windows. The file that they are of is the one that only contracts
+    /// see.
     pub fn new(windows: &OrderedWindows<'a>) -> Self
         requires of { AreWindowsOf F.bytes windows.now.seen }
         ensures seen { result.windows.seen ≡ windows.now.seen }

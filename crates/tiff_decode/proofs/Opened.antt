@@ -12,7 +12,7 @@ use Rattle.tiff_page.specs.Page.{PageRecord}
 use Rattle.tiff_decode.specs.DefaultLimits.{default_limits}
 use Rattle.tiff_decode.specs.Machine.{Decoding}
 use Rattle.tiff_decode.specs.Opened.{OpensFirst, before_first, moved, opened_by, opened_of}
-use Rattle.tiff_decode.specs.Outcome.{chain_from, decoder_of, end_fault, enter, entry_outcome, first_directory, first_state, page_in, seek_outcome, seek_to_image, with_page}
+use Rattle.tiff_decode.specs.Outcome.{chain_from, decoder_of, end_fault, enter, entry_outcome, first_directory, first_decoder, page_in, seek_outcome, seek_to_image, with_page}
 
 -- ---- what `open` returns
 
@@ -38,15 +38,7 @@ opened_header bytes failures header h =
 -- the last step of `decoder_of`
 abbrev paged : List ℕ → ℕ → Header × ℕ × DirectoryRecord → Result PageRecord TiffError
     → Result Decoding TiffError
-paged bytes failures found r = r >>= λ page. Ok (record {
-  bytes = bytes;
-  readable = None;
-  kind = found.0.kind;
-  order = found.0.order;
-  first = found.0.first;
-  failures = failures;
-  state = first_state found.0.kind found.1 found.2 page;
-})
+paged bytes failures found r = r >>= λ page. Ok (first_decoder bytes failures found.0 found.1 found.2 page)
 
 abbrev page_found : List ℕ → ℕ → Result (Header × ℕ × DirectoryRecord) TiffError
     → Result Decoding TiffError

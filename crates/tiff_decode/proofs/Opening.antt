@@ -1,5 +1,5 @@
 -- The steps of opening a file, and their results.
-use Rattle.std.specs.Prelude.{◌≡◌, ℕ, List, [], Option, None, Some, Result, Ok, Err, length}
+use Rattle.std.specs.Prelude.{◌≡◌, ℕ, List, [], Option, Some, Result, Ok, Err, length}
 use Rattle.std.specs.List.{slice_get}
 use Rattle.std.proofs.Common.{zero, suc, ap, sym, ◌∙◌, refl, subst}
 use Rattle.tiff_base.specs.declared.error.TiffError.{TiffError}
@@ -14,7 +14,7 @@ use Rattle.tiff_ifd.specs.TagLookup.{ok_or_fault}
 use Rattle.tiff_ifd.specs.IfdChainWalk.{Walked, Enters, NextIsRefused, WalkSteps}
 use Rattle.tiff_page.specs.Page.{PageRecord}
 use Rattle.tiff_decode.specs.Machine.{Decoding}
-use Rattle.tiff_decode.specs.Outcome.{decoder_of, chain_from, first_directory, first_state, page_in, end_fault}
+use Rattle.tiff_decode.specs.Outcome.{decoder_of, chain_from, first_directory, first_decoder, page_in, end_fault}
 use Rattle.tiff_decode.specs.DefaultLimits.{default_limits}
 
 -- the first offset of a chain, or the error where there is none
@@ -127,15 +127,7 @@ first_entered bytes contents header before after d same h b s =
 page_then : List ℕ → ℕ → Result (Header × ℕ × DirectoryRecord) TiffError → Result Decoding TiffError
 page_then bytes failures r =
     r >>= λ found. page_in found.0.kind found.0.order bytes default_limits found.2 >>= λ page.
-    Ok (record {
-      bytes = bytes;
-      readable = None;
-      kind = found.0.kind;
-      order = found.0.order;
-      first = found.0.first;
-      failures = failures;
-      state = first_state found.0.kind found.1 found.2 page;
-    })
+    Ok (first_decoder bytes failures found.0 found.1 found.2 page)
 
 -- a file without a first directory
 pub begun_unread : (failed failed' : Type 0) (bytes : List ℕ) (failures : ℕ) (e : TiffError)
@@ -158,15 +150,7 @@ unfolding decoder_of page_then
 begun_unpaged wanting failed failed' bytes contents limits failures header offset directory e f same given found c =
     cause_along e (λ _. tt) f
     (λ h. ap (page_then bytes failures) found
-    ∙ ap (λ (r : Result PageRecord TiffError). r >>= λ page. Ok (record {
-      bytes = bytes;
-      readable = None;
-      kind = header.kind;
-      order = header.order;
-      first = header.first;
-      failures = failures;
-      state = first_state header.kind offset directory page;
-    }))
+    ∙ ap (λ (r : Result PageRecord TiffError). r >>= λ page. Ok (first_decoder bytes failures header offset directory page))
     ((λ i. page_in header.kind header.order (sym same i) (sym given i) directory) ∙ h))
     c
 
@@ -176,25 +160,9 @@ pub begun_page : (bytes contents : List ℕ) (limits : Limits) (failures : ℕ) 
     → contents ≡ bytes → limits ≡ default_limits
     → first_directory bytes ≡ Ok (header, offset, directory)
     → page_in header.kind header.order contents limits directory ≡ Ok page
-    → decoder_of bytes failures ≡ Ok (record {
-      bytes = bytes;
-      readable = None;
-      kind = header.kind;
-      order = header.order;
-      first = header.first;
-      failures = failures;
-      state = first_state header.kind offset directory page;
-    })
+    → decoder_of bytes failures ≡ Ok (first_decoder bytes failures header offset directory page)
 unfolding decoder_of page_then
 begun_page bytes contents limits failures header offset directory page same given found h =
     ap (page_then bytes failures) found
-    ∙ ap (λ (r : Result PageRecord TiffError). r >>= λ page. Ok (record {
-      bytes = bytes;
-      readable = None;
-      kind = header.kind;
-      order = header.order;
-      first = header.first;
-      failures = failures;
-      state = first_state header.kind offset directory page;
-    }))
+    ∙ ap (λ (r : Result PageRecord TiffError). r >>= λ page. Ok (first_decoder bytes failures header offset directory page))
     ((λ i. page_in header.kind header.order (sym same i) (sym given i) directory) ∙ h)

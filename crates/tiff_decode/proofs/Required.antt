@@ -14,8 +14,9 @@ use Rattle.tiff_ifd.specs.Into.{into_u64_vec}
 use Rattle.tiff_ifd.specs.TagQueries.{find_unsigned_vec}
 use Rattle.tiff_page.specs.lemmas.PassedChecks.{number_found, required_found}
 use Rattle.tiff_decode.specs.Machine.{Decoding}
-use Rattle.tiff_decode.specs.Outcome.{find_tag_unsigned_vec, page_tags, WantsTag}
-use Rattle.tiff_decode.specs.Reader.{FirstUnfit}
+use Rattle.tiff_decode.specs.declared.ifd_decoder.IfdDecoder.{IfdDecoder}
+use Rattle.tiff_decode.specs.Outcome.{find_tag_unsigned_vec, get_tag, page_tags, required_value, WantsTag}
+use Rattle.tiff_decode.specs.Reader.{FirstUnfit, ReadsTags, TagsRead, reading}
 use Rattle.tiff_ifd.specs.TagLookup.{TagLookup, if_found, find, ok_or_fault, require}
 
 -- a value that is there is the required value
@@ -63,6 +64,38 @@ pub none_failed : {X : Type 0} (r : Result X TiffError) {before after : ℕ} →
     → NoneSwallowed r before after
 none_failed (Ok x) h = h
 none_failed (Err e) h = λ _. h
+
+-- a call that reads a required value and converts it
+pub converted_read : {V X Y : Type 0} (wanting : Type 0) (plain : V → PlainValue) (view : X → Y)
+    (into : PlainValue → Result Y TiffError) (tag : Tag) (value : V) (r : Result X TiffError)
+    (old new : Decoding) → TagsRead (WantsTag old tag) plain (get_tag old tag) (Ok value) old new
+    → AnswersBut wanting ⊥ view r (into (plain value))
+    → TagsRead (WantsTag old tag) view (required_value old into tag) r old new
+unfolding get_tag
+converted_read wanting plain view into tag value r old new read made = record {
+  answer = converted wanting _ view into (page_tags old) tag (plain value) r read.answer made;
+  state = read.state;
+  failures = read.failures;
+  swallowed = none_failed r read.swallowed;
+}
+
+-- the same of an `IfdDecoder`
+pub converted_reading : {R V X Y : Type 0} (wanting : Type 0) (plain : V → PlainValue) (view : X → Y)
+    (into : PlainValue → Result Y TiffError) (tag : Tag) (value : V) (r : Result X TiffError)
+    (old new : IfdDecoder R)
+    → ReadsTags (WantsTag (reading old) tag) plain (get_tag (reading old) tag) (Ok value) old new
+    → AnswersBut wanting ⊥ view r (into (plain value))
+    → ReadsTags (WantsTag (reading old) tag) view (required_value (reading old) into tag) r old new
+unfolding get_tag
+converted_reading wanting plain view into tag value r old new read made = record {
+  answer =
+      converted wanting _ view into (page_tags (reading old)) tag (plain value) r read.answer made;
+  kept = record {
+    held = read.kept.held;
+    other = read.kept.other;
+    swallowed = none_failed r read.kept.swallowed;
+  };
+}
 
 -- ---- where memory is allocated
 

@@ -10,6 +10,9 @@ use Rattle.tiff_base.specs.Field.{DirectoryRecord}
 use Rattle.tiff_base.specs.SourceAndSink.{SourceRecord}
 use Rattle.tiff_ifd.specs.declared.limits.Limits.{Limits}
 use Rattle.tiff_page.specs.Page.{PageRecord}
+use Rattle.tiff_ifd.specs.declared.value_reader.ValueReader.{ValueReader}
+use Rattle.tiff_page.specs.declared.page.Page.{Page}
+use Rattle.tiff_page.specs.PageView.{page as page_record}
 
 -- The state of a decoder: the offset of the directory that it entered last, whether another
 -- directory follows it, the last page with its directory, the offset of the low-level reads, and
@@ -52,6 +55,13 @@ decoding source kind order first failures pointer more page directory offset lim
     limits = limits;
   };
 }
+
+-- a decoder from its fields
+abbrev pub from_fields : {R : Type 0} → (R → SourceRecord) → (R → ℕ) → ValueReader R → ℕ
+    → Option IfdPointer → Bool → Page → ℕ → Decoding
+from_fields contents failures tags first pointer more page offset =
+    decoding (contents tags.source) tags.kind tags.order first (failures tags.source) pointer more
+    (page_record page) tags.directory offset tags.limits
 
 -- the source of a decoder
 abbrev pub source_of : Decoding → SourceRecord
@@ -104,6 +114,11 @@ FollowsBut wanting view outcome (Err e) old new = Refused wanting e outcome old 
 abbrev pub Follows : {X Y : Type 0} → (X → Y) → Outcome Y → Result X TiffError → Decoding → Decoding
     → Type 0
 Follows view outcome result old new = FollowsBut (Unit {0}) view outcome result old new
+
+-- the same of the outcome of the decoder before the call
+abbrev pub FollowsCall : {X : Type 0} → (Decoding → Outcome X) → Result X TiffError → Decoding
+    → Decoding → Type 0
+FollowsCall call result old new = Follows (λ x. x) (call old) result old new
 
 -- a call that reads the source and allocates no memory
 abbrev pub FollowsWithoutMemory : {X Y : Type 0} → (X → Y) → Outcome Y → Result X TiffError

@@ -95,21 +95,25 @@ first_state kind offset directory page = record {
   limits = default_limits;
 }
 
--- the decoder of a file of which all bytes are readable, at its first page, with this count of
--- failed reads; or the first error
+-- a decoder at the first page of a file of which all bytes are readable, with this count of failed
+-- reads
+abbrev pub first_decoder : List ℕ → ℕ → Header → ℕ → DirectoryRecord → PageRecord → Decoding
+first_decoder bytes failures header offset directory page = record {
+  bytes = bytes;
+  readable = None;
+  kind = header.kind;
+  order = header.order;
+  first = header.first;
+  failures = failures;
+  state = first_state header.kind offset directory page;
+}
+
+-- the decoder of such a file at its first page; or the first error
 unfoldable pub decoder_of : List ℕ → ℕ → Result Decoding TiffError
 decoder_of bytes failures = do
   found ← first_directory bytes
   page ← page_in found.0.kind found.0.order bytes default_limits found.2
-  Ok (record {
-    bytes = bytes;
-    readable = None;
-    kind = found.0.kind;
-    order = found.0.order;
-    first = found.0.first;
-    failures = failures;
-    state = first_state found.0.kind found.1 found.2 page;
-  })
+  Ok (first_decoder bytes failures found.0 found.1 found.2 page)
 
 -- the state with the page of a directory; or the error of the page, which leaves the state
 -- unchanged

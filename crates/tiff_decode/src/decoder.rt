@@ -12,7 +12,7 @@ ghost use Rattle.tiff_ifd.specs.IfdChainWalk.{ChainBegins, ChainEnds, NextReadab
 ghost use Rattle.tiff_page.specs.Reach.{PageReadable};
 ghost use Rattle.tiff_decode.specs.Asked.{EntryReadable, NextPageReadable, OpenReadable, SeekReadable};
 ghost use Rattle.tiff_decode.specs.ChainPosition.{IsInChain, IsAt, index_behind};
-ghost use Rattle.tiff_decode.specs.Machine.{Decoding, Follows, FollowsBut, FollowsOrFaults, FollowsWithoutEither, Tells, decoding, keeps_state, source_of};
+ghost use Rattle.tiff_decode.specs.Machine.{Decoding, Follows, FollowsBut, FollowsCall, FollowsOrFaults, FollowsWithoutEither, Tells, from_fields, keeps_state, source_of};
 ghost use Rattle.tiff_decode.specs.Outcome as outcome;
 ghost use Rattle.tiff_decode.specs.Outcome.{decoder_of, first_directory, page_in};
 
@@ -226,8 +226,9 @@ struct ChainDirectory {
     directory: Directory,
 }
 
-// Enters a directory of the chain that was read: moves the decoder to it and reads its page. Where the page has an error, the decoder keeps its former page. After out of
-// memory and after an error of the device the decoder is unchanged.
+// Enters a directory of the chain that was read: moves the decoder to it and reads its page. Where
+// the page has an error, the decoder keeps its former page. After out of memory and after an error
+// of the device the decoder is unchanged.
 fn enter_directory<R: Source>(
     alloc: Global,
     tags: &mut ValueReader<R>,
@@ -238,20 +239,15 @@ fn enter_directory<R: Source>(
     ensures kept { IsKept R.contents R.failures result tags.old.source tags.new.source }
     ensures kind { tags.new.kind ≡ tags.old.kind }
     ensures order { tags.new.order ≡ tags.old.order }
-    ensures follows { (first here : ℕ) → Follows (λ x. x) (outcome.entry_outcome
-        (decoding (R.contents tags.old.source) tags.old.kind tags.old.order first
-        (R.failures tags.old.source) standing.old.pointer
-        standing.old.more (page_record page.old) tags.old.directory here tags.old.limits) read.place.offset
-        (Ok read.directory)) result
-        (decoding (R.contents tags.old.source) tags.old.kind tags.old.order first
-        (R.failures tags.old.source) standing.old.pointer
-        standing.old.more (page_record page.old) tags.old.directory here tags.old.limits)
-        (decoding (R.contents tags.new.source) tags.new.kind tags.new.order first
-        (R.failures tags.new.source) standing.new.pointer
-        standing.new.more (page_record page.new) tags.new.directory here tags.new.limits) }
     ensures stands { (offsets : List ℕ)
         → IsAt offsets standing.old.pointer standing.old.at → slice_get offsets
         read.place.at ≡ Some read.place.offset → IsAt offsets standing.new.pointer standing.new.at }
+    ensures follows { (first here : ℕ)
+        → FollowsCall (λ d. outcome.entry_outcome d read.place.offset (Ok read.directory)) result
+        (from_fields R.contents R.failures tags.old first
+        standing.old.pointer standing.old.more page.old here)
+        (from_fields R.contents R.failures tags.new first
+        standing.new.pointer standing.new.more page.new here) }
     ensures asked { ReadsOnly (PageReadable (R.contents tags.old.source) tags.old.kind tags.old.order read.directory)
         result }
 {
@@ -286,19 +282,14 @@ fn enter_offset<R: Source>(
     ensures kept { IsKept R.contents R.failures result tags.old.source tags.new.source }
     ensures kind { tags.new.kind ≡ tags.old.kind }
     ensures order { tags.new.order ≡ tags.old.order }
-    ensures follows { (first here : ℕ) → Follows (λ x. x) (outcome.enter
-        (decoding (R.contents tags.old.source) tags.old.kind tags.old.order first
-        (R.failures tags.old.source) standing.old.pointer
-        standing.old.more (page_record page.old) tags.old.directory here tags.old.limits) place.offset) result
-        (decoding (R.contents tags.old.source) tags.old.kind tags.old.order first
-        (R.failures tags.old.source) standing.old.pointer
-        standing.old.more (page_record page.old) tags.old.directory here tags.old.limits)
-        (decoding (R.contents tags.new.source) tags.new.kind tags.new.order first
-        (R.failures tags.new.source) standing.new.pointer
-        standing.new.more (page_record page.new) tags.new.directory here tags.new.limits) }
     ensures stands { (offsets : List ℕ)
         → IsAt offsets standing.old.pointer standing.old.at → slice_get offsets
         place.at ≡ Some place.offset → IsAt offsets standing.new.pointer standing.new.at }
+    ensures follows { (first here : ℕ) → FollowsCall (λ d. outcome.enter d place.offset) result
+        (from_fields R.contents R.failures tags.old first
+        standing.old.pointer standing.old.more page.old here)
+        (from_fields R.contents R.failures tags.new first
+        standing.new.pointer standing.new.more page.new here) }
     ensures asked { ReadsOnly (EntryReadable (R.contents tags.old.source) tags.old.kind tags.old.order place.offset)
         result }
 {
@@ -320,16 +311,9 @@ fn show_read<R: Source>(
     ensures kind { tags.new.kind ≡ tags.old.kind }
     ensures order { tags.new.order ≡ tags.old.order }
     ensures follows { (first here : ℕ) (pointer : Option IfdPointer) (more : Bool)
-        → Follows (λ x. x) (outcome.show_outcome
-        (decoding (R.contents tags.old.source) tags.old.kind tags.old.order first
-        (R.failures tags.old.source) pointer more
-        (page_record page.old) tags.old.directory here tags.old.limits) (Ok directory)) result
-        (decoding (R.contents tags.old.source) tags.old.kind tags.old.order first
-        (R.failures tags.old.source) pointer more
-        (page_record page.old) tags.old.directory here tags.old.limits)
-        (decoding (R.contents tags.new.source) tags.new.kind tags.new.order first
-        (R.failures tags.new.source) pointer more
-        (page_record page.new) tags.new.directory here tags.new.limits) }
+        → FollowsCall (λ d. outcome.show_outcome d (Ok directory)) result
+        (from_fields R.contents R.failures tags.old first pointer more page.old here)
+        (from_fields R.contents R.failures tags.new first pointer more page.new here) }
     ensures asked { ReadsOnly (PageReadable (R.contents tags.old.source) tags.old.kind tags.old.order directory)
         result }
 {
@@ -354,16 +338,9 @@ fn show_offset<R: Source>(
     ensures kind { tags.new.kind ≡ tags.old.kind }
     ensures order { tags.new.order ≡ tags.old.order }
     ensures follows { (first here : ℕ) (pointer : Option IfdPointer) (more : Bool)
-        → Follows (λ x. x) (outcome.show_directory
-        (decoding (R.contents tags.old.source) tags.old.kind tags.old.order first
-        (R.failures tags.old.source) pointer more
-        (page_record page.old) tags.old.directory here tags.old.limits) at) result
-        (decoding (R.contents tags.old.source) tags.old.kind tags.old.order first
-        (R.failures tags.old.source) pointer more
-        (page_record page.old) tags.old.directory here tags.old.limits)
-        (decoding (R.contents tags.new.source) tags.new.kind tags.new.order first
-        (R.failures tags.new.source) pointer more
-        (page_record page.new) tags.new.directory here tags.new.limits) }
+        → FollowsCall (λ d. outcome.show_directory d at) result
+        (from_fields R.contents R.failures tags.old first pointer more page.old here)
+        (from_fields R.contents R.failures tags.new first pointer more page.new here) }
     ensures asked { ReadsOnly (EntryReadable (R.contents tags.old.source) tags.old.kind tags.old.order at.0) result }
 {
     let (kind, order) = (tags.kind, tags.order);

@@ -83,8 +83,8 @@ fn all_fit(numbers: &[u64])
     ensures { (tag : _) → fitted_numbers tag (2 ^ 64) numbers.now ≡ Ok numbers.now }
 {}
 
-// Leaves in a buffer what the error of a field leaves there: no bytes of the field's type, or, where
-// a limit refused the field, what the buffer had.
+// Leaves in a buffer what the error of a field leaves there: no bytes of the field's type, or,
+// where a limit refused the field, what the buffer had.
 fn leave_refused(
     alloc: Global,
     order: ByteOrder,

@@ -400,18 +400,6 @@ pub fn run_call<R: Source>(decoder: &mut Decoder<R>, call: &Call) -> Reply
     }
 }
 
-// Appends an item to a list that has room for it.
-fn put<T: Drop>(items: &mut Vec<T>, item: T)
-    requires { vec_len items.old < vec_capacity items.old }
-    ensures items { items.new.items ≡ items.old.items ++ item ∷ [] }
-    ensures len { vec_len items.new ≡ vec_len items.old + 1 }
-    ensures capacity { vec_capacity items.old ≤ vec_capacity items.new }
-{
-    if items.push(item).is_err() {
-        unreachable!();
-    }
-}
-
 /// Makes calls of a decoder one after another, and appends the reply of each to `replies`, also
 /// where it is an error. First reserves memory for all replies; where that fails, returns
 /// `OutOfMemory`, makes no call, and leaves `replies` unchanged.
@@ -428,7 +416,7 @@ pub fn run_calls<R: Source>(
     replies.try_reserve(calls.len())?;
     for call in calls {
         let reply = run_call(decoder, call);
-        put(replies, reply);
+        replies.push_reserved(reply);
     }
     Ok(())
 }

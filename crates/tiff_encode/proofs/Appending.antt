@@ -7,9 +7,9 @@ use Rattle.tiff_base.specs.Field.{Field}
 use Rattle.tiff_base.specs.Number.{le}
 use Rattle.tiff_base.specs.SourceAndSink.{put}
 use Rattle.tiff_value.specs.ColorType.{ColorTypeRecord}
-use Rattle.tiff_encode.specs.FileBytes.{offset_len, directory_bytes}
+use Rattle.tiff_value.specs.FileBytes.{offset_len, directory_bytes}
 use Rattle.tiff_encode.specs.FileWrites.{file_with_bytes}
-use Rattle.tiff_encode.specs.WriteOps.{WriteOp, Listed, all_appended}
+use Rattle.tiff_value.specs.WriteOps.{WriteOp, Listed, all_appended}
 use Rattle.tiff_encode.specs.Machine.{FileState, OpenDirectory, OpenImage, WriteOutcome, WriteCall, does, by_cause, and_then, ◌>>=◌}
 use Rattle.tiff_encode.specs.Causes.{finish_cause, write_image_data_cause}
 use Rattle.tiff_encode.specs.Calls.{Offsets, offsets_of, links_to, chains, finish, write_tags, last_tags, finish_image, write_chunks, write_image_data, new_image, write_image}

@@ -13,17 +13,17 @@ use Rattle.tiff_base.specs.Field.{Field}
 use Rattle.tiff_base.specs.FieldBytes.{field_offset}
 use Rattle.tiff_base.specs.Number.{number, le}
 use Rattle.tiff_value.specs.Data.{FieldData, IsWhole}
-use Rattle.tiff_encode.specs.FileBytes.{offset_len}
-use Rattle.tiff_encode.specs.Model.{ByteRegion, Model, IsLink}
-use Rattle.tiff_encode.specs.WriteOps.{WriteOp, Appended, Supplied, Listed, bytes_after, model_after}
-use Rattle.tiff_encode.specs.Laws.{AreListable, OpsFit}
-use Rattle.tiff_encode.specs.Value.{is_long, filled_field}
+use Rattle.tiff_value.specs.FileBytes.{offset_len}
+use Rattle.tiff_value.specs.Model.{ByteRegion, Model, IsLink}
+use Rattle.tiff_value.specs.WriteOps.{WriteOp, Appended, Supplied, Listed, bytes_after, model_after}
+use Rattle.tiff_value.specs.FileLaws.{AreListable, OpsFit}
+use Rattle.tiff_value.specs.Fields.{is_long, filled_field}
 use Rattle.tiff_encode.specs.Machine.{FileState, OpenDirectory, WriteCall, gives, does, by_cause, and_then, ◌>>=◌}
 use Rattle.tiff_encode.specs.Causes.{is_past, end_of, finish_cause}
 use Rattle.tiff_encode.specs.Calls.{Offsets, links_to, chains, offsets_of, finish}
 use Rattle.tiff_encode.specs.CallLaws.{PlacedFits, FinishFits}
-use Rattle.tiff_encode.specs.lemmas.Slices.{number-le}
-use Rattle.tiff_encode.proofs.WriteOps.{fits_joined}
+use Rattle.tiff_base.specs.lemmas.Slices.{number-le}
+use Rattle.tiff_value.specs.lemmas.File.WriteOps.{fits_joined}
 use Rattle.tiff_encode.proofs.Runs.{near}
 use Rattle.std.specs.FinMap.{len}
 

@@ -19,9 +19,9 @@ use Rattle.tiff_base.specs.Types.{type_size}
 use Rattle.tiff_value.specs.Buffer.{BufferRecord}
 use Rattle.tiff_value.specs.Data.{FieldData}
 use Rattle.tiff_value.specs.Values.{IsValue, IsWritable, byte_count}
-use Rattle.tiff_encode.specs.FileBytes.{offset_len}
-use Rattle.tiff_encode.specs.Value.{is_long, filled_field, field_at, data_in, buffer_data}
-use Rattle.tiff_encode.specs.WriteOps.{WriteOp, Appended, Supplied, all_appended}
+use Rattle.tiff_value.specs.FileBytes.{offset_len}
+use Rattle.tiff_value.specs.Fields.{is_long, filled_field, field_at, data_in, buffer_data}
+use Rattle.tiff_value.specs.WriteOps.{WriteOp, Appended, Supplied, all_appended}
 use Rattle.tiff_encode.specs.Machine.{FileState, WriteOutcome, WriteCall, gives, does, by_cause, answers, ◌>>=◌}
 use Rattle.tiff_encode.specs.Encoder.{AppendIsCut, AppendIsStopped}
 use Rattle.tiff_encode.specs.FileWrites.{file_with_bytes}

@@ -8,14 +8,15 @@ use Rattle.tiff_base.specs.Field.{Field}
 use Rattle.tiff_encode.specs.declared.encoder.script.DirectoryStep.{DirectoryStep}
 use Rattle.tiff_encode.specs.declared.encoder.script.StepReply.{StepReply}
 use Rattle.tiff_encode.specs.declared.encoder.script.StepReply.TheVariants as reply
-use Rattle.tiff_encode.specs.Model.{Model, FileContains}
-use Rattle.tiff_encode.specs.WriteOps.{WriteOp, model_after}
+use Rattle.tiff_value.specs.Model.{Model, FileContains}
+use Rattle.tiff_value.specs.WriteOps.{WriteOp, model_after}
 use Rattle.tiff_encode.specs.Machine.{FileState, OpenDirectory, WriteOutcome, WriteCall, gives, and_then}
 use Rattle.tiff_encode.specs.Calls.{with_field}
 use Rattle.tiff_encode.specs.Ends.{EndsAsDefined, CallFails}
 use Rattle.tiff_encode.specs.Jobs.{FileAndModel, Changes, Replies, DirectoryStepped}
 use Rattle.tiff_encode.specs.Stepping.{Moves}
-use Rattle.tiff_encode.proofs.Guarding.{Value, entry_of, tag_of, tag_called}
+use Rattle.tiff_encode.specs.GivenValues.{Value, entry_of, tag_of}
+use Rattle.tiff_encode.proofs.Guarding.{tag_called}
 use Rattle.tiff_encode.proofs.Joining.{Adds, adding}
 use Rattle.tiff_encode.proofs.Moving.{Seen, moves_so}
 

@@ -6,16 +6,16 @@ use Rattle.tiff_base.specs.declared.error.TiffError.{TiffError}
 use Rattle.tiff_base.specs.Directory.{link_offset}
 use Rattle.tiff_value.specs.Data.{Scalars}
 use Rattle.tiff_base.specs.declared.tags.Tag.{Tag}
-use Rattle.tiff_encode.specs.Model.{FinishedDirectory, Model, IsLink, with_directory}
-use Rattle.tiff_encode.specs.WriteOps.{WriteOp, Listed, after_op, model_after, standing_fields}
+use Rattle.tiff_value.specs.Model.{FinishedDirectory, Model, IsLink, with_directory}
+use Rattle.tiff_value.specs.WriteOps.{WriteOp, Listed, after_op, model_after, standing_fields}
 use Rattle.tiff_encode.specs.Machine.{FileState, OpenDirectory, OpenImage, WriteOutcome, WriteCall, does, after_ops, by_cause, and_then, ◌>>=◌}
 use Rattle.tiff_encode.specs.Chunks.{parts_left}
 use Rattle.tiff_encode.specs.Causes.{end_of, finish_cause, write_image_data_cause}
 use Rattle.tiff_encode.specs.Calls.{Offsets, offsets_of, links_to, chain_after, chains, finish, write_tags, last_tags, finish_image, write_chunks, write_image_data}
 use Rattle.tiff_encode.specs.Open.{model_by}
-use Rattle.tiff_encode.specs.lemmas.Slices.{ok_inj}
-use Rattle.tiff_encode.proofs.FileAndModel.{len_standing}
-use Rattle.tiff_encode.proofs.WriteOps.{ops_grow, link_kept}
+use Rattle.tiff_base.specs.lemmas.Slices.{ok_inj}
+use Rattle.tiff_value.specs.lemmas.File.FileAndModel.{len_standing}
+use Rattle.tiff_value.specs.lemmas.File.WriteOps.{ops_grow, link_kept}
 use Rattle.tiff_encode.proofs.Leaving.{ok_err}
 use Rattle.tiff_encode.proofs.Joining.{IsAdding}
 use Rattle.tiff_encode.proofs.Open.Tags.{tags_adding}

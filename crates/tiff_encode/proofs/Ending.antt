@@ -14,9 +14,9 @@ use Rattle.tiff_base.specs.Directory.{entry_len, link_offset}
 use Rattle.tiff_base.specs.Field.{Field, In, IsEntry, AreEntries}
 use Rattle.tiff_base.specs.Number.{le}
 use Rattle.tiff_base.specs.SourceAndSink.{put}
-use Rattle.tiff_encode.specs.FileBytes.{offset_len, count_len, entry_bytes, directory_bytes}
+use Rattle.tiff_value.specs.FileBytes.{offset_len, count_len, entry_bytes, directory_bytes}
 use Rattle.tiff_encode.specs.Machine.{FileState, OpenDirectory, WriteCall, does, ◌>>=◌}
-use Rattle.tiff_encode.specs.WriteOps.{WriteOp, Listed, bytes_after, all_appended}
+use Rattle.tiff_value.specs.WriteOps.{WriteOp, Listed, bytes_after, all_appended}
 use Rattle.tiff_encode.specs.Encoder.{AppendIsCut, IsTorn}
 use Rattle.tiff_encode.specs.FileWrites.{file_with_bytes}
 use Rattle.tiff_encode.specs.Causes.{is_past, is_past_count, end_of, parent_cause, finish_cause}
@@ -24,7 +24,7 @@ use Rattle.tiff_encode.specs.Calls.{Offsets, offsets_of, links_to, chain_after, 
 use Rattle.tiff_encode.specs.Ends.{EndsAsDefined, LinkWriteFailed, Ends}
 use Rattle.tiff_encode.specs.Placing.{parent_test, end_test}
 use Rattle.tiff_encode.proofs.Calling.{stopped_cause, fresh_cause, refused, uncaused, wanting, cut_off}
-use Rattle.tiff_encode.specs.lemmas.Slices.{length-le}
+use Rattle.tiff_base.specs.lemmas.Slices.{length-le}
 
 -- ---- the length of a directory
 

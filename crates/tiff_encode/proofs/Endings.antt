@@ -21,8 +21,8 @@ use Rattle.tiff_encode.specs.Ends.{EndsAsDefined, CallFails, Ends}
 use Rattle.tiff_encode.specs.LastTags.{count_tags, bits_tags, samples_tags, number_of_part, list_tags_of, list_tags, offset_type}
 use Rattle.tiff_encode.specs.Machine.{Chunk, FileState, OpenDirectory, OpenImage, WriteCall}
 use Rattle.tiff_encode.specs.Tagging.{write_fields, fields_of}
-use Rattle.tiff_encode.specs.Value.{offset_values}
-use Rattle.tiff_encode.specs.FileBytes.{offset_len}
+use Rattle.tiff_value.specs.Fields.{offset_values}
+use Rattle.tiff_value.specs.FileBytes.{offset_len}
 use Rattle.tiff_encode.proofs.Joining.{Adds, tag_adds, bind_told, bind_ends, bind_fails}
 use Rattle.tiff_encode.proofs.Tagging.{tags_are_fields, fields_adds, fields_end, fields_fail}
 

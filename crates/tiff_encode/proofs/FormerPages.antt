@@ -25,12 +25,12 @@ use Rattle.tiff_ifd.specs.TagLookup.{if_found, look_in}
 use Rattle.tiff_page.specs.Page.{PageRecord}
 use Rattle.tiff_page.specs.Checks.{page_of}
 use Rattle.tiff_encode.specs.Appending.{Continues}
-use Rattle.tiff_encode.specs.FileBytes.{offset_len, count_len}
-use Rattle.tiff_encode.specs.Model.{IsClear}
+use Rattle.tiff_value.specs.FileBytes.{offset_len, count_len}
+use Rattle.tiff_value.specs.Model.{IsClear}
 use Rattle.tiff_encode.specs.Shows.{page_at}
 use Rattle.tiff_encode.specs.FormerPages.{AreValuesClear, DirectoryStays, FormerPagesStay}
-use Rattle.tiff_encode.specs.lemmas.Slices.{ok_bind, ok_inj, exact, length_put, number_kept}
-use Rattle.tiff_encode.specs.lemmas.Kept.{Keeps, keeps, body_kept, directory_from}
+use Rattle.tiff_base.specs.lemmas.Slices.{ok_bind, ok_inj, exact, length_put, number_kept}
+use Rattle.tiff_value.specs.lemmas.File.Kept.{Keeps, keeps, body_kept, directory_from}
 use Rattle.tiff_encode.specs.lemmas.GoingOn.{some_offset, number_within, bytes_stay}
 use Rattle.tiff_encode.specs.lemmas.LongerChain.{directory_split}
 

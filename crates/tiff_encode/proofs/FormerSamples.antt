@@ -14,9 +14,9 @@ use Rattle.tiff_page.specs.Methods.{data_by_method}
 use Rattle.tiff_page.specs.Pixels.{planar_or, stored_row_bytes, stored_row, number_of_row, in_row, shown_number, shown_sample}
 use Rattle.tiff_page.specs.Rect.{chunk_of_pixel}
 use Rattle.tiff_encode.specs.Appending.{Continues}
-use Rattle.tiff_encode.specs.FileBytes.{offset_len}
+use Rattle.tiff_value.specs.FileBytes.{offset_len}
 use Rattle.tiff_encode.specs.FormerPages.{AreBytesClear, IsRowClear, FormerSamplesStay}
-use Rattle.tiff_encode.specs.lemmas.Slices.{exact, is_exact, length_put}
+use Rattle.tiff_base.specs.lemmas.Slices.{exact, is_exact, length_put}
 use Rattle.tiff_encode.specs.lemmas.GoingOn.{bytes_stay}
 
 not_less : (a b : ℕ) → b ≤ a → nat_lt a b ≡ false

@@ -15,17 +15,18 @@ use Rattle.tiff_base.specs.Field.{Field, AreEntries}
 use Rattle.tiff_value.specs.Buffer.{BufferRecord}
 use Rattle.tiff_value.specs.Data.{FieldData}
 use Rattle.tiff_value.specs.Values.{IsValue}
-use Rattle.tiff_encode.specs.FileBytes.{offset_len, padding}
-use Rattle.tiff_encode.specs.Value.{data_in, buffer_data, is_long, field_at}
-use Rattle.tiff_encode.specs.Model.{SuppliedField, Model, IsLink, FileContains}
-use Rattle.tiff_encode.specs.WriteOps.{WriteOp, Appended, Supplied, Listed, all_appended, model_after}
-use Rattle.tiff_encode.specs.Laws.{OpsFit}
+use Rattle.tiff_value.specs.FileBytes.{offset_len, padding}
+use Rattle.tiff_value.specs.Fields.{data_in, buffer_data, is_long, field_at}
+use Rattle.tiff_value.specs.Model.{SuppliedField, Model, IsLink, FileContains}
+use Rattle.tiff_value.specs.WriteOps.{WriteOp, Appended, Supplied, Listed, all_appended, model_after}
+use Rattle.tiff_value.specs.FileLaws.{OpsFit}
 use Rattle.tiff_encode.specs.Machine.{FileState, OpenDirectory, WriteOutcome, WriteCall, answers, gives, does, by_cause, ◌>>=◌}
 use Rattle.tiff_encode.specs.Encoder.{AppendIsStopped, AppendIsCut}
 use Rattle.tiff_encode.specs.FileWrites.{file_with_bytes}
 use Rattle.tiff_encode.specs.Causes.{unless_ended, end_of, begin_cause, field_cause, write_tag_cause, write_buf_cause, write_entry_bytes_cause, write_data_cause, write_data_buf_cause, finish_cause}
 use Rattle.tiff_encode.specs.Calls.{Offsets, offsets_of, links_to, chains, new_directory, pad, image_directory, extra_directory, with_field, placed_field, write_entry, write_tag, write_entry_buf, write_entry_bytes, write_tag_buf, appends, write_data, write_data_buf, extend_from, finish}
 use Rattle.tiff_encode.specs.Ends.{EndsAsDefined, CallFails, Ends}
+use Rattle.tiff_encode.specs.GivenValues.{Value, Given, Lent, Bytes, entry_of, tag_of}
 use Rattle.tiff_encode.specs.Leaves.{IsGiven, Leaves, LeavesTorn, LeavesLinked}
 use Rattle.tiff_encode.proofs.Calling.{cut_off, refused, uncaused, stopped_cause, fresh_cause}
 use Rattle.tiff_encode.proofs.CallFits.{caused_fits, offset_len_8, placed_fits}
@@ -118,24 +119,6 @@ pub fresh_by : (fault : Option SinkFault) (cause : Option TiffError)
     → unless_ended fault cause ≡ None → fault ≡ None
 fresh_by None cause h = refl
 fresh_by (Some f) cause h = absurd cc
-
--- a value: its data, or a buffer, or the bytes of an entry
-pub data Value : Type 0 where
-  Given : Result FieldData TiffError → Value
-  Lent : BufferRecord → Value
-  Bytes : «Type» → List ℕ → Value
-
--- the call that writes a value, and the call that then sets the field in a directory
-abbrev pub entry_of : Value → WriteCall Field
-entry_of (Given value) = write_entry value
-entry_of (Lent b) = write_entry_buf b
-entry_of (Bytes type bytes) = write_entry_bytes type bytes
-
-abbrev pub tag_of : OpenDirectory → Tag → Value → WriteCall OpenDirectory
-tag_of d t (Given value) = write_tag d t value
-tag_of d t (Lent b) = write_tag_buf d t b
-tag_of d t (Bytes type bytes) =
-    write_entry_bytes type bytes >>= (λ field. gives (with_field d t field))
 
 pub tag_called : (d : OpenDirectory) (t : Tag) (v : Value) (file : FileState)
     → tag_of d t v file ≡ (entry_of v >>= (λ field. gives (with_field d t field))) file

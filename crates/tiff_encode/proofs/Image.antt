@@ -1,6 +1,5 @@
 -- The calls of an image, and its steps in a list of jobs.
 pub mod Table
-pub mod FitsEntries
 pub mod FitsCalls
 pub mod Fits
 pub mod Guard

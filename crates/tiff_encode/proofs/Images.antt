@@ -14,7 +14,7 @@ use Rattle.tiff_value.specs.Data.{FieldData, Scalars, u32s, data_of}
 use Rattle.tiff_encode.specs.Machine.{FileState, OpenDirectory, OpenImage, WriteCall, gives, ◌>>=◌}
 use Rattle.tiff_encode.specs.Encoder.{AppendIsStopped, AppendIsCut}
 use Rattle.tiff_encode.specs.FileWrites.{file_with_bytes}
-use Rattle.tiff_encode.specs.FileBytes.{padding}
+use Rattle.tiff_value.specs.FileBytes.{padding}
 use Rattle.tiff_encode.specs.Ends.{EndsAsDefined, CallFails, Ends}
 use Rattle.tiff_encode.specs.Calls.{new_directory, pad, image_directory, write_tags, meaning_tags, chroma_tags, layout_tags, first_tags, image_in, new_image}
 use Rattle.tiff_encode.specs.Causes.{begin_cause, end_of, is_unpredicted, image_cause, new_image_cause}

@@ -11,17 +11,17 @@ use Rattle.tiff_base.specs.Number.{le}
 use Rattle.tiff_base.specs.SourceAndSink.{put}
 use Rattle.tiff_value.specs.Buffer.{BufferRecord}
 use Rattle.tiff_value.specs.Data.{FieldData}
-use Rattle.tiff_encode.specs.FileBytes.{offset_len, directory_bytes, padding}
-use Rattle.tiff_encode.specs.Model.{SuppliedField}
-use Rattle.tiff_encode.specs.WriteOps.{WriteOp, Appended, Supplied, Listed, Linked, all_appended}
-use Rattle.tiff_encode.specs.Laws.{AreAppending}
-use Rattle.tiff_encode.specs.Value.{is_long, field_at, data_in, buffer_data}
+use Rattle.tiff_value.specs.FileBytes.{offset_len, directory_bytes, padding}
+use Rattle.tiff_value.specs.Model.{SuppliedField}
+use Rattle.tiff_value.specs.WriteOps.{WriteOp, Appended, Supplied, Listed, Linked, all_appended}
+use Rattle.tiff_value.specs.FileLaws.{AreAppending}
+use Rattle.tiff_value.specs.Fields.{is_long, field_at, data_in, buffer_data}
 use Rattle.tiff_encode.specs.Machine.{FileState, OpenDirectory, OpenImage, WriteOutcome, WriteCall, answers, gives, does, after_ops, by_cause, and_then, ◌>>=◌}
 use Rattle.tiff_encode.specs.FileWrites.{file_with_bytes}
 use Rattle.tiff_encode.specs.Causes.{end_of, begin_cause, write_tag_cause, write_buf_cause, write_entry_bytes_cause, write_data_cause, write_data_buf_cause}
 use Rattle.tiff_encode.specs.Calls.{new_directory, pad, image_directory, extra_directory, with_field, placed_field, appends, with_chunk, appends_chunk, write_entry, write_entry_buf, write_entry_bytes, write_tag, write_tag_buf, write_data, write_data_buf}
 use Rattle.tiff_encode.specs.Ends.{EndsAsDefined, HasBegun, CallFails, Ends}
-use Rattle.tiff_encode.proofs.WriteOps.{ops_append}
+use Rattle.tiff_value.specs.lemmas.File.WriteOps.{ops_append}
 use Rattle.tiff_encode.proofs.Leaving.{ok_err}
 
 -- ---- calls that append

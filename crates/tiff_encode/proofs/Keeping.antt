@@ -2,13 +2,13 @@
 use Rattle.std.proofs.Common.{◌≡◌, ℕ, List, ◌++◌, length, Result, Ok, Err, refl, ap, sym, ◌∙◌, inl, inr, subst}
 use Rattle.std.proofs.Math.Seq.{take-length}
 use Rattle.tiff_base.specs.declared.error.TiffError.{TiffError}
-use Rattle.tiff_encode.specs.Model.{Model, FileContains}
-use Rattle.tiff_encode.specs.WriteOps.{all_appended, model_after}
-use Rattle.tiff_encode.specs.Laws.{AreAppending, OpsFit}
+use Rattle.tiff_value.specs.Model.{Model, FileContains}
+use Rattle.tiff_value.specs.WriteOps.{all_appended, model_after}
+use Rattle.tiff_value.specs.FileLaws.{AreAppending, OpsFit}
 use Rattle.tiff_encode.specs.Machine.{FileState, WriteOutcome}
 use Rattle.tiff_encode.specs.Ends.{CallFails, Ends}
 use Rattle.tiff_encode.specs.Leaves.{Leaves}
-use Rattle.tiff_encode.proofs.WriteOps.{ops_append, ops_stand}
+use Rattle.tiff_value.specs.lemmas.File.WriteOps.{ops_append, ops_stand}
 use Rattle.tiff_encode.proofs.Joining.{Adds, IsAdding, adding, ends_torn}
 use Rattle.tiff_encode.proofs.Leaving.{begun_leaves}
 

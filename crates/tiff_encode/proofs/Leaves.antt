@@ -3,11 +3,11 @@ use Rattle.std.proofs.Common.{◌≡◌, ℕ, ◌+◌, ◌-◌, List, [], length
 use Rattle.tiff_base.specs.declared.tags.FileKind.{FileKind}
 use Rattle.tiff_base.specs.Number.{le}
 use Rattle.tiff_value.specs.Written.{Written, new_writer, writer_after}
-use Rattle.tiff_encode.specs.FileBytes.{offset_len, header_mark, header_bytes}
-use Rattle.tiff_encode.specs.Model.{FileContains, header_link, header_model}
+use Rattle.tiff_value.specs.FileBytes.{offset_len, header_mark, header_bytes}
+use Rattle.tiff_value.specs.Model.{FileContains, header_link, header_model}
 use Rattle.tiff_encode.specs.Shows.{LeavesHeader}
-use Rattle.tiff_encode.specs.lemmas.Slices.{length-le}
-use Rattle.tiff_encode.specs.lemmas.Header.{header_stands}
+use Rattle.tiff_base.specs.lemmas.Slices.{length-le}
+use Rattle.tiff_value.specs.lemmas.File.Header.{header_stands}
 use Rattle.tiff_value.specs.lemmas.Put.{put_end}
 
 -- the model of a header describes the file of a header that is written to an empty sink

@@ -17,17 +17,17 @@ use Rattle.tiff_base.specs.declared.tags.«Type».{«Type»}
 use Rattle.tiff_base.specs.Field.{Field, In, AreEntries}
 use Rattle.tiff_base.specs.Types.{type_size}
 use Rattle.tiff_value.specs.Data.{IsWhole}
-use Rattle.tiff_encode.specs.FileBytes.{offset_len, count_len}
-use Rattle.tiff_encode.specs.Model.{Model, IsLink, FileContains, with_link}
-use Rattle.tiff_encode.specs.WriteOps.{WriteOp, Appended, Supplied, Listed, Linked, bytes_after, all_appended, model_after}
-use Rattle.tiff_encode.specs.Laws.{AreListable, AreAppending, OpsFit}
-use Rattle.tiff_encode.specs.Value.{data_in}
+use Rattle.tiff_value.specs.FileBytes.{offset_len, count_len}
+use Rattle.tiff_value.specs.Model.{Model, IsLink, FileContains, with_link}
+use Rattle.tiff_value.specs.WriteOps.{WriteOp, Appended, Supplied, Listed, Linked, bytes_after, all_appended, model_after}
+use Rattle.tiff_value.specs.FileLaws.{AreListable, AreAppending, OpsFit}
+use Rattle.tiff_value.specs.Fields.{data_in}
 use Rattle.tiff_encode.specs.Machine.{FileState, OpenDirectory, WriteOutcome, WriteCall, does, by_cause, ◌>>=◌}
 use Rattle.tiff_encode.specs.Causes.{unless_ended, is_past, is_past_count, end_of, order_cause, finish_cause}
 use Rattle.tiff_encode.specs.Calls.{Offsets, offsets_of, links_to, chain_after, chains, finish}
 use Rattle.tiff_encode.specs.Ends.{EndsAsDefined, LinkWriteFailed, Ends}
 use Rattle.tiff_encode.specs.Leaves.{LeavesTorn, LeavesLinked}
-use Rattle.tiff_encode.proofs.WriteOps.{bytes_joined, ops_stand, ops_begun, ops_torn}
+use Rattle.tiff_value.specs.lemmas.File.WriteOps.{bytes_joined, ops_stand, ops_begun, ops_torn}
 use Rattle.tiff_encode.proofs.CallFits.{caused_fits, finish_fits}
 
 -- ---- links among the changes of a call

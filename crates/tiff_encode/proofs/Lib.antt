@@ -4,14 +4,7 @@ pub mod Keeping
 pub mod Moving
 pub mod DirectoryMoves
 pub mod Settings
-pub mod Headers
-pub mod Entries
-pub mod FileAndModel
-pub mod Grown
-pub mod WriteOps
-pub mod Agree
 pub mod Runs
-pub mod Listing
 pub mod CallFits
 pub mod Calling
 pub mod Images

@@ -2,15 +2,15 @@
 -- it.
 use Rattle.std.proofs.Common.{◌≡◌, Bool, Result, Ok, Err, refl, ap, sym, ◌∙◌, inl, inr, subst}
 use Rattle.tiff_base.specs.declared.error.TiffError.{TiffError}
-use Rattle.tiff_encode.specs.Model.{Model, FileContains, Grows}
-use Rattle.tiff_encode.specs.WriteOps.{model_after}
-use Rattle.tiff_encode.specs.Laws.{AreAppending}
+use Rattle.tiff_value.specs.Model.{Model, FileContains, Grows}
+use Rattle.tiff_value.specs.WriteOps.{model_after}
+use Rattle.tiff_value.specs.FileLaws.{AreAppending}
 use Rattle.tiff_encode.specs.Machine.{FileState, WriteOutcome, WriteCall}
 use Rattle.tiff_encode.specs.Ends.{Ends}
 use Rattle.tiff_encode.specs.Leaves.{Leaves}
 use Rattle.tiff_encode.specs.Jobs.{FileAndModel, IsDone, Refuses}
 use Rattle.tiff_encode.specs.Stepping.{StandsIfKnown, Moves}
-use Rattle.tiff_encode.proofs.WriteOps.{ops_grow}
+use Rattle.tiff_value.specs.lemmas.File.WriteOps.{ops_grow}
 use Rattle.tiff_encode.proofs.Joining.{IsAdding, ends_torn}
 
 -- a model grows from itself

@@ -15,10 +15,10 @@ use Rattle.tiff_base.specs.Directory.{offset_width, link, directory_at}
 use Rattle.tiff_base.specs.Number.{number_at}
 use Rattle.tiff_ifd.specs.Chain.{link_from, IsChain, Chain}
 use Rattle.tiff_encode.specs.Appending.{HasHeader}
-use Rattle.tiff_encode.specs.Model.{In, FinishedDirectory, Model, FileContains, IsLink, header_link, own_link}
+use Rattle.tiff_value.specs.Model.{In, FinishedDirectory, Model, FileContains, IsLink, header_link, own_link}
 use Rattle.tiff_encode.specs.LongerChain.{chain_behind, link_offset_at, link_behind, unless_cut, LinkBehind, AreLinked, PagesGoOn, LastLinkEnds}
-use Rattle.tiff_encode.specs.lemmas.Slices.{ok_bind, ok_inj, some_inj, none_some}
-use Rattle.tiff_encode.specs.lemmas.Kept.{own_parts}
+use Rattle.tiff_base.specs.lemmas.Slices.{ok_bind, ok_inj, some_inj, none_some}
+use Rattle.tiff_value.specs.lemmas.File.Kept.{own_parts}
 use Rattle.tiff_encode.specs.lemmas.GoingOn.{some_offset, number_within}
 use Rattle.tiff_encode.specs.lemmas.LongerChain.{NotMet, later, not_met, more_met, none_met, enters, entered_link, other_link, zero_link, some_link, ended, own_link_at, chain_of, chain_is, uncut, chain_goes_on}
 

@@ -12,14 +12,15 @@ use Rattle.tiff_base.specs.Field.{Field}
 use Rattle.tiff_base.specs.Tags.{tag_number}
 use Rattle.tiff_encode.specs.declared.encoder.directory.state.Room.{Room}
 use Rattle.tiff_encode.specs.declared.encoder.directory.state.Room.TheVariants.{Taken, Held, Missing}
-use Rattle.tiff_encode.specs.Calls.{with_field, without_field, with_directory_of}
+use Rattle.tiff_encode.specs.Calls.{with_field, without_field}
 use Rattle.tiff_encode.specs.Ends.{EndsAsDefined, Ends}
 use Rattle.tiff_encode.specs.Leaves.{Leaves}
-use Rattle.tiff_encode.specs.Machine.{FileState, OpenDirectory, OpenImage}
-use Rattle.tiff_encode.specs.Model.{Model}
+use Rattle.tiff_encode.specs.Machine.{FileState, OpenDirectory}
+use Rattle.tiff_value.specs.Model.{Model}
 use Rattle.tiff_encode.specs.Rooms.{blank_field, with_room, IsRoomFor, is_made, IsSettled, StaysUnlessCut, IsInRoom}
 use Rattle.tiff_encode.proofs.DirectoryMoves.{tag_kept}
-use Rattle.tiff_encode.proofs.Guarding.{Value, entry_of, tag_of, tag_told, tag_fails}
+use Rattle.tiff_encode.specs.GivenValues.{Value, entry_of, tag_of}
+use Rattle.tiff_encode.proofs.Guarding.{tag_told, tag_fails}
 
 -- ---- a key that is set in a map twice, or set and removed
 
@@ -82,18 +83,6 @@ pub room_kept : (room : Room) (made : Bool) (placed : Result Field TiffError) (o
     → IsInRoom made old new placed → IfOk placed (λ _. is_made room ≡ true)
 room_kept room made (Ok field) old new m h = sym m ∙ h
 room_kept room made (Err e) old new m h = tt
-
--- an image with the directory
-pub image_settled : {A : Type 0} (i now : OpenImage) (next : OpenDirectory) (t : Tag) (room : Room)
-    (placed : Result Field TiffError)
-    (r : Result A TiffError) → now ≡ with_directory_of i (with_room i.directory t room)
-    → IsSettled (λ field. with_field i.directory t field) i.directory placed r next
-    → IsSettled (λ field. with_directory_of i (with_field i.directory t field)) i placed r
-    (with_directory_of now next)
-image_settled i now next t room placed (Ok x) e (field, (q, n)) =
-    (field, (q, ap (λ s. with_directory_of s next) e ∙ ap (with_directory_of i) n))
-image_settled i now next t room placed (Err fault) e (q, n) =
-    (q, ap (λ s. with_directory_of s next) e ∙ ap (with_directory_of i) n)
 
 module _ {S A : Type 0} (opened : S → OpenDirectory) (having : S → OpenDirectory → S)
     (given : (s : S) (d : OpenDirectory) → opened (having s d) ≡ d) (own : (s : S) → having s (opened s) ≡ s)

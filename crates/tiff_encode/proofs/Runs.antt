@@ -17,7 +17,7 @@ use Rattle.tiff_encode.specs.Causes.{is_past, end_of, unless_ended, finish_cause
 use Rattle.tiff_encode.specs.Calls.{Offsets, offsets_of, result_by, finish, new_offset}
 use Rattle.tiff_encode.specs.Stored.{IsCompressed, unpacked_chunk}
 use Rattle.tiff_encode.specs.RunLaws.{IsOneStep, OneStep, OneStored, OffsetsAgree}
-use Rattle.tiff_encode.specs.lemmas.Slices.{ok_inj}
+use Rattle.tiff_base.specs.lemmas.Slices.{ok_inj}
 
 one_of : (A : Type 0) → IsOneStep A
 one_of A told r s old new other a b =

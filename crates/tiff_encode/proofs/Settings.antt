@@ -31,8 +31,9 @@ use Rattle.tiff_encode.specs.Calls.{placed_field, write_tag, write_tags, extend_
 use Rattle.tiff_encode.specs.Ends.{EndsAsDefined, CallFails}
 use Rattle.tiff_encode.specs.Tagging.{write_fields, StopsInPart, fields_of}
 use Rattle.tiff_encode.proofs.Calling.{refused, uncaused, wanting, entry_uncaused}
-use Rattle.tiff_encode.proofs.Entries.{last_of_entries}
-use Rattle.tiff_encode.proofs.Guarding.{Given, tag_fails, fresh_by}
+use Rattle.tiff_value.specs.lemmas.File.Entries.{last_of_entries}
+use Rattle.tiff_encode.specs.GivenValues.{Given}
+use Rattle.tiff_encode.proofs.Guarding.{tag_fails, fresh_by}
 use Rattle.tiff_encode.proofs.Leaving.{passed, unended}
 use Rattle.tiff_encode.proofs.Joining.{Adds, bind_told, bind_fails, tag_adds}
 use Rattle.tiff_encode.proofs.Image.Table.{Setting, Extra, Sides, call_of, row, called}

@@ -5,5 +5,4 @@ pub mod Packed
 pub mod Whole
 pub mod Chunks
 pub mod Images
-pub mod FirstPage
 pub mod Gray

@@ -32,7 +32,7 @@ use Rattle.tiff_encode.specs.FileWrites.{file_with_bytes}
 use Rattle.tiff_encode.specs.Stored.{IsChunkStored, IsCompressed, unpacked_chunk}
 use Rattle.tiff_encode.specs.Storing.{AppendsChunk, StoresChunk, WritesStoredChunk}
 use Rattle.tiff_encode.proofs.Calling.{none_some, cut_off}
-use Rattle.tiff_encode.specs.lemmas.Shown.Bytes.{length_written}
+use Rattle.tiff_page.specs.lemmas.WrittenNumbers.{length_written}
 
 -- ---- a chunk is whole rows
 

@@ -16,14 +16,14 @@ use Rattle.tiff_base.specs.Field.{Field}
 use Rattle.tiff_base.specs.Number.{le}
 use Rattle.tiff_base.specs.Types.{type_size}
 use Rattle.tiff_value.specs.Data.{FieldData, Scalars, u16s, u32s, rationals, data_of}
-use Rattle.tiff_encode.specs.Value.{data_in, filled_field}
-use Rattle.tiff_encode.specs.WriteOps.{WriteOp}
+use Rattle.tiff_value.specs.Fields.{data_in, filled_field}
+use Rattle.tiff_value.specs.WriteOps.{WriteOp}
 use Rattle.tiff_encode.specs.Machine.{FileState, OpenDirectory, WriteOutcome, WriteCall, gives, after_ops, by_cause, and_then, ◌>>=◌}
 use Rattle.tiff_encode.specs.Causes.{unless_ended, field_cause, write_tag_cause, write_entry_bytes_cause}
 use Rattle.tiff_encode.specs.Calls.{placed_field, write_entry, write_entry_bytes, write_tag, write_tags}
 use Rattle.tiff_encode.specs.Ends.{EndsAsDefined, CallFails, Ends}
 use Rattle.tiff_encode.specs.Tagging.{write_fields, StopsInPart, fields_of}
-use Rattle.tiff_encode.proofs.Listing.{filled_whole}
+use Rattle.tiff_value.specs.lemmas.File.Listing.{filled_whole}
 use Rattle.tiff_encode.proofs.Joining.{IsAdding, Adds, adding, answers_adding, tag_adds, bind_told, bind_ends_adding, bind_fails, bind_adding, bind_adds}
 
 -- ---- equal calls

@@ -8,10 +8,10 @@ use Rattle.tiff_base.specs.SourceAndSink.{bytes_at, exactly_at, put}
 use Rattle.tiff_base.specs.Number.{number_at}
 use Rattle.tiff_base.specs.Directory.{count_width, offset_width, directory_at}
 use Rattle.tiff_encode.specs.declared.encoder.settings.Compression.TheVariants.{Uncompressed}
-use Rattle.tiff_encode.specs.FileBytes.{offset_len, header_mark}
-use Rattle.tiff_encode.specs.WriteOps.{WriteOp, Appended, Supplied, Listed, Linked, bytes_after}
+use Rattle.tiff_value.specs.FileBytes.{offset_len, header_mark}
+use Rattle.tiff_value.specs.WriteOps.{WriteOp, Appended, Supplied, Listed, Linked, bytes_after}
 use Rattle.tiff_encode.specs.Machine.{FileState}
-use Rattle.tiff_encode.specs.Model.{FinishedDirectory, ByteRegion, Model, header_link, IsLink, FileContains, whole_len}
+use Rattle.tiff_value.specs.Model.{FinishedDirectory, ByteRegion, Model, header_link, IsLink, FileContains, whole_len}
 
 -- the file of an encoder that goes on behind these bytes, with its last link at an offset
 abbrev pub continued_file : FileKind → List ℕ → ℕ → ℕ → FileState

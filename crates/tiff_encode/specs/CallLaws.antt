@@ -5,8 +5,8 @@ use Rattle.tiff_base.specs.declared.tags.ResolutionUnit.{ResolutionUnit}
 use Rattle.tiff_base.specs.Field.{AreEntries}
 use Rattle.tiff_value.specs.ColorType.{ColorTypeRecord}
 use Rattle.tiff_value.specs.Data.{FieldData, IsWhole}
-use Rattle.tiff_encode.specs.Model.{Model, IsLink}
-use Rattle.tiff_encode.specs.Laws.{AreListable, OpsFit}
+use Rattle.tiff_value.specs.Model.{Model, IsLink}
+use Rattle.tiff_value.specs.FileLaws.{AreListable, OpsFit}
 use Rattle.tiff_encode.specs.Machine.{FileState, OpenDirectory, OpenImage, WriteCall}
 use Rattle.tiff_encode.specs.Causes.{end_of, field_cause}
 use Rattle.tiff_encode.specs.Calls.{Offsets, placed_field, finish, new_image, extra_samples, set_rows_per_strip, tiles, planar, resolution, x_resolution, y_resolution, resolution_unit, write_strip, write_chunk, finish_image}

@@ -23,11 +23,11 @@ use Rattle.tiff_base.specs.Tags.{tag_number}
 use Rattle.tiff_value.specs.ColorType.{ColorTypeRecord, columns_of}
 use Rattle.tiff_encode.specs.declared.encoder.settings.Compression.{Compression}
 use Rattle.tiff_encode.specs.declared.encoder.settings.Compression.TheVariants.{Uncompressed}
-use Rattle.tiff_encode.specs.FileBytes.{padding, rows_per_strip}
+use Rattle.tiff_value.specs.FileBytes.{padding, rows_per_strip}
 use Rattle.tiff_value.specs.Buffer.{BufferRecord}
 use Rattle.tiff_value.specs.Data.{FieldData, Scalars, u16s, u32s, methods, interpretations, planars, predictors, units, formats, extras, rationals, data_of}
-use Rattle.tiff_encode.specs.Value.{offset_values, data_in, buffer_data, is_long, field_at}
-use Rattle.tiff_encode.specs.WriteOps.{WriteOp, Appended, Supplied, Listed, Linked}
+use Rattle.tiff_value.specs.Fields.{offset_values, data_in, buffer_data, is_long, field_at}
+use Rattle.tiff_value.specs.WriteOps.{WriteOp, Appended, Supplied, Listed, Linked}
 use Rattle.tiff_encode.specs.Machine.{FileState, compression_method, OpenDirectory, ChunkLayout, OpenImage, WriteCall, answers, gives, does, by_cause, ◌>>=◌}
 use Rattle.tiff_encode.specs.Chunks.{all_samples, parts_left}
 use Rattle.tiff_encode.specs.Causes.{begin_cause, write_tag_cause, write_buf_cause, write_entry_bytes_cause, write_data_cause, write_data_buf_cause, finish_cause, offset_cause, new_image_cause, extra_samples_cause, rows_per_strip_cause, tiles_cause, planar_cause, resolution_cause, one_resolution_cause, resolution_unit_cause, write_strip_cause, write_chunk_cause, write_image_data_cause, end_of}
@@ -229,8 +229,8 @@ layout_tags i =
 unfoldable pub first_tags : OpenImage → List (Tag × Scalars)
 first_tags i = meaning_tags i ++ (chroma_tags i.color.interpretation ++ layout_tags i)
 
--- an image of a width in pixels and a height without chunks, in a directory; `size` is the number of
--- bytes of a sample
+-- an image of a width in pixels and a height without chunks, in a directory; `size` is the number
+-- of bytes of a sample
 abbrev pub image_in : FileState → OpenDirectory → ColorTypeRecord → ℕ → ℕ → ℕ → OpenImage
 image_in file d color size width height = record {
   directory = d;

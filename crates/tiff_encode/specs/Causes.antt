@@ -27,8 +27,8 @@ use Rattle.tiff_value.specs.Buffer.{BufferRecord}
 use Rattle.tiff_value.specs.Data.{FieldData, extras, rationals, data_of}
 use Rattle.tiff_page.specs.Counts.{all_chunks}
 use Rattle.tiff_encode.specs.Encoder.{is_too_far}
-use Rattle.tiff_encode.specs.FileBytes.{offset_len, resolutions_offset}
-use Rattle.tiff_encode.specs.Value.{data_in, buffer_data, is_long}
+use Rattle.tiff_value.specs.FileBytes.{offset_len, resolutions_offset}
+use Rattle.tiff_value.specs.Fields.{data_in, buffer_data, is_long}
 use Rattle.tiff_encode.specs.Machine.{FileState, OpenDirectory, OpenImage}
 use Rattle.tiff_encode.specs.Chunks.{all_samples, image_page, is_tile, is_begun, is_left, is_in_order, next_chunk_sample_count}
 

@@ -9,7 +9,7 @@ use Rattle.tiff_base.specs.declared.tags.FileKind.{FileKind}
 use Rattle.tiff_base.specs.Number.{le}
 use Rattle.tiff_base.specs.SourceAndSink.{put, sink_error}
 use Rattle.tiff_encode.specs.Machine.{FileState}
-use Rattle.tiff_encode.specs.FileBytes.{offset_len, header_bytes}
+use Rattle.tiff_value.specs.FileBytes.{offset_len, header_bytes}
 
 -- The sink failed while the header was written: it has the first bytes of the header, one more
 -- failure, and the cause of that failure.

@@ -6,8 +6,8 @@ use Rattle.tiff_base.specs.declared.error.TiffError.TheVariants.{OutOfMemory}
 use Rattle.tiff_base.specs.declared.io.SinkFault.{SinkFault}
 use Rattle.tiff_base.specs.Number.{le}
 use Rattle.tiff_base.specs.SourceAndSink.{put, sink_error}
-use Rattle.tiff_encode.specs.FileBytes.{offset_len}
-use Rattle.tiff_encode.specs.WriteOps.{WriteOp, Linked, all_appended}
+use Rattle.tiff_value.specs.FileBytes.{offset_len}
+use Rattle.tiff_value.specs.WriteOps.{WriteOp, Linked, all_appended}
 use Rattle.tiff_encode.specs.Machine.{FileState, WriteOutcome}
 
 -- The result of the call, which can be an error, and the file after it are as specified.

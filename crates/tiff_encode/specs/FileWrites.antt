@@ -6,7 +6,7 @@ use Rattle.tiff_base.specs.declared.tags.Predictor.{Predictor}
 use Rattle.tiff_base.specs.Number.{le}
 use Rattle.tiff_base.specs.SourceAndSink.{put}
 use Rattle.tiff_value.specs.Written.{Written}
-use Rattle.tiff_encode.specs.FileBytes.{offset_len}
+use Rattle.tiff_value.specs.FileBytes.{offset_len}
 use Rattle.tiff_encode.specs.declared.encoder.settings.Compression.{Compression}
 use Rattle.tiff_encode.specs.Machine.{FileState}
 use Rattle.tiff_encode.specs.Encoder.{AppendIsStopped, AppendIsCut, IsTorn}

@@ -16,8 +16,8 @@ use Rattle.tiff_page.specs.Page.{PageRecord}
 use Rattle.tiff_page.specs.Pixels.{planar_or, stored_row_bytes, shown_sample}
 use Rattle.tiff_page.specs.Rect.{chunk_of_pixel}
 use Rattle.tiff_encode.specs.Appending.{Continues}
-use Rattle.tiff_encode.specs.FileBytes.{offset_len, count_len}
-use Rattle.tiff_encode.specs.Model.{IsClear}
+use Rattle.tiff_value.specs.FileBytes.{offset_len, count_len}
+use Rattle.tiff_value.specs.Model.{IsClear}
 use Rattle.tiff_encode.specs.Shows.{page_at}
 
 -- Each field of a directory has its values in its entry, or within the file and apart from the link

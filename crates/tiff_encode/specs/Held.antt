@@ -29,10 +29,10 @@ use Rattle.tiff_page.specs.Checks.{is_page_tag, tags_of_pixels}
 use Rattle.tiff_page.specs.Counts.{all_chunks}
 use Rattle.tiff_page.specs.Layout.{color_of}
 use Rattle.tiff_page.specs.Pixels.{is_short}
-use Rattle.tiff_encode.specs.FileBytes.{offset_len}
-use Rattle.tiff_encode.specs.Value.{offset_values}
-use Rattle.tiff_encode.specs.Model.{In, FinishedDirectory, Model, FileContains}
-use Rattle.tiff_encode.specs.WriteOps.{standing_fields}
+use Rattle.tiff_value.specs.FileBytes.{offset_len}
+use Rattle.tiff_value.specs.Fields.{offset_values}
+use Rattle.tiff_value.specs.Model.{In, FinishedDirectory, Model, FileContains}
+use Rattle.tiff_value.specs.WriteOps.{standing_fields}
 use Rattle.tiff_encode.specs.Machine.{Chunk, OpenImage, compression_method}
 use Rattle.tiff_encode.specs.Drawn.{IsSide, IsForm, HoldsPixels}
 use Rattle.tiff_encode.specs.Chunks.{all_samples, image_page, shown_page, chunk_samples, sample_in}

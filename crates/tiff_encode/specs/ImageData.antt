@@ -9,7 +9,7 @@ use Rattle.tiff_value.specs.declared.encoder.colortype.ColorTypeName.TheVariants
 use Rattle.tiff_value.specs.ColorType.{ColorTypeRecord}
 use Rattle.tiff_value.specs.ColorTypes.{color_type, inner_size}
 use Rattle.tiff_encode.specs.declared.encoder.settings.Compression.TheVariants.{Uncompressed}
-use Rattle.tiff_encode.specs.Model.{Model, IsLink, FileContains, header_link}
+use Rattle.tiff_value.specs.Model.{Model, IsLink, FileContains, header_link}
 use Rattle.tiff_encode.specs.Machine.{FileState, OpenImage, WriteOutcome, WriteCall}
 use Rattle.tiff_encode.specs.Drawn.{IsValidImage}
 use Rattle.tiff_encode.specs.Chunks.{all_samples, image_page, shown_page, parts_left, sample_in}

@@ -7,6 +7,9 @@ use Rattle.tiff_value.specs.Data.{FieldData, data_of, text_data}
 use Rattle.tiff_encode.specs.declared.encoder.script.JobValue.{JobValue}
 use Rattle.tiff_encode.specs.declared.encoder.script.JobValue.TheVariants as v
 use Rattle.tiff_encode.specs.declared.encoder.script.JobBuffer.{JobBuffer}
+use Rattle.tiff_encode.specs.declared.encoder.script.JobField.{JobField}
+use Rattle.tiff_encode.specs.declared.encoder.script.JobField.TheVariants as field
+use Rattle.tiff_encode.specs.GivenValues.{Value, Given, Lent}
 
 -- the data of a value, or the error that says why it can't be written
 abbrev pub value_data : JobValue → Result FieldData TiffError
@@ -35,6 +38,11 @@ value_data (v.Text text) = text_data (string_bytes text)
 
 abbrev pub buffer_in : JobBuffer → BufferRecord
 buffer_in b = record { order = b.order; data_type = b.data_type; bytes = b.bytes.items }
+
+-- the value of a step that sets a tag
+abbrev pub given_in : JobField → Value
+given_in (field.Value value) = Given (value_data value.now)
+given_in (field.Buffer buffer) = Lent (buffer_in buffer.now)
 
 -- samples, each cut to a number of `size` bytes
 abbrev pub cut_to : ℕ → List ℕ → List ℕ

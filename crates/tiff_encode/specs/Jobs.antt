@@ -31,10 +31,10 @@ use Rattle.tiff_encode.specs.declared.encoder.script.StepReply.TheVariants as re
 use Rattle.tiff_encode.specs.declared.encoder.script.EndReply.{EndReply}
 use Rattle.tiff_encode.specs.declared.encoder.script.EndReply.TheVariants as last
 use Rattle.tiff_encode.specs.declared.encoder.script.JobReply.{JobReply}
-use Rattle.tiff_encode.specs.Model.{Model, In, FileContains, header_model, with_link}
+use Rattle.tiff_value.specs.Model.{Model, In, FileContains, header_model, with_link}
 use Rattle.tiff_encode.specs.Shows.{Image, Shows}
 use Rattle.tiff_encode.specs.Encoder.{HeaderFails}
-use Rattle.tiff_encode.specs.WriteOps.{model_after}
+use Rattle.tiff_value.specs.WriteOps.{model_after}
 use Rattle.tiff_encode.specs.Machine.{FileState, OpenDirectory, OpenImage, WriteOutcome, WriteCall, begun_file}
 use Rattle.tiff_encode.specs.Chunks.{is_left, next_chunk_sample_count, next_strip_sample_count, parts_left}
 use Rattle.tiff_encode.specs.Causes.{resolution_cause, write_chunk_cause, write_strip_cause, write_image_data_cause}

@@ -4,10 +4,10 @@ use Rattle.tiff_base.specs.declared.tags.FileKind.{FileKind}
 use Rattle.tiff_encode.specs.declared.encoder.script.Job.{Job}
 use Rattle.tiff_encode.specs.declared.encoder.script.JobReply.{JobReply}
 use Rattle.tiff_encode.specs.Appending.{Continues, GoesOnBehind, continued_file}
-use Rattle.tiff_encode.specs.FileBytes.{offset_len}
+use Rattle.tiff_value.specs.FileBytes.{offset_len}
 use Rattle.tiff_encode.specs.Jobs.{Run, JobsRun, RunShows, RunStands}
 use Rattle.tiff_encode.specs.Machine.{FileState}
-use Rattle.tiff_encode.specs.Model.{Model}
+use Rattle.tiff_value.specs.Model.{Model}
 use Rattle.tiff_encode.specs.Running.{JobsMove}
 
 -- a run that begins behind a file, which contains a model

@@ -4,7 +4,7 @@ use Rattle.tiff_base.specs.declared.error.TiffError.{TiffError}
 use Rattle.tiff_base.specs.declared.error.TiffError.TheVariants.{IntSizeError}
 use Rattle.tiff_base.specs.declared.tags.FileKind.{FileKind}
 use Rattle.tiff_value.specs.Written.{Written, WritesCounted, writer_after, IsStopped, IsCut}
-use Rattle.tiff_encode.specs.FileBytes.{offset_len, header_bytes}
+use Rattle.tiff_value.specs.FileBytes.{offset_len, header_bytes}
 
 -- a number is written as these bytes; a number that exceeds its bytes returns `IntSizeError`, and
 -- nothing is written

@@ -17,7 +17,7 @@ use Rattle.tiff_value.specs.Values.{IsValue}
 use Rattle.tiff_encode.specs.declared.encoder.image.finish.ChunkListKind.{ChunkListKind}
 use Rattle.tiff_encode.specs.declared.encoder.image.finish.ChunkListKind.TheVariants.{OffsetList, ByteCountList}
 use Rattle.tiff_encode.specs.Machine.{Chunk}
-use Rattle.tiff_encode.specs.Value.{offset_values}
+use Rattle.tiff_value.specs.Fields.{offset_values}
 use Rattle.tiff_encode.specs.Calls.{extended_by_first, chunk_tags}
 
 -- the tag of the number of samples of a pixel, if some are extra samples

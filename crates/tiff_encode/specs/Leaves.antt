@@ -2,8 +2,8 @@
 use Rattle.std.specs.Prelude.{ℕ, ◌^◌, ◌<◌, ◌⊎◌, length, Result, Ok, Err}
 use Rattle.tiff_base.specs.declared.error.TiffError.{TiffError}
 use Rattle.tiff_value.specs.Data.{FieldData, IsWhole}
-use Rattle.tiff_encode.specs.Model.{Model, FileContains, with_link}
-use Rattle.tiff_encode.specs.WriteOps.{model_after}
+use Rattle.tiff_value.specs.Model.{Model, FileContains, with_link}
+use Rattle.tiff_value.specs.WriteOps.{model_after}
 use Rattle.tiff_encode.specs.Machine.{FileState, WriteOutcome}
 use Rattle.tiff_encode.specs.Ends.{LinkWriteFailed}
 

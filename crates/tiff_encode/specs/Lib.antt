@@ -1,11 +1,6 @@
-pub mod FileBytes
-pub mod Model
-pub mod Laws
 pub mod Encoder
 pub mod FileWrites
 pub mod Shows
-pub mod Value
-pub mod WriteOps
 pub mod Machine
 pub mod Drawn
 pub mod Chunks
@@ -19,6 +14,7 @@ pub mod Stored
 pub mod Held
 pub mod Open
 pub mod Storing
+pub mod GivenValues
 pub mod JobValues
 pub mod JobSamples
 pub mod Jobs

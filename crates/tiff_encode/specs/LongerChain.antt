@@ -9,8 +9,8 @@ use Rattle.tiff_base.specs.Directory.{count_width, offset_width, link, link_offs
 use Rattle.tiff_base.specs.Number.{number_at}
 use Rattle.tiff_ifd.specs.Chain.{Chain, chain, link_from}
 use Rattle.tiff_encode.specs.Appending.{header_end, Continues, HasHeader, EndsInHeader, EndsIn}
-use Rattle.tiff_encode.specs.FileBytes.{offset_len, count_len}
-use Rattle.tiff_encode.specs.Model.{In, FinishedDirectory, Model, FileContains, IsLink, IsClear, header_link, own_link}
+use Rattle.tiff_value.specs.FileBytes.{offset_len, count_len}
+use Rattle.tiff_value.specs.Model.{In, FinishedDirectory, Model, FileContains, IsLink, IsClear, header_link, own_link}
 
 -- the chain of a little-endian file from a link on
 abbrev pub chain_behind : FileKind → List ℕ → Option ℕ → Chain

@@ -17,8 +17,8 @@ use Rattle.tiff_encode.specs.declared.encoder.settings.Compression.{Compression}
 use Rattle.tiff_encode.specs.declared.encoder.settings.Compression.TheVariants.{Uncompressed, Packbits, PackbitsRows}
 pub use Rattle.tiff_encode.specs.declared.encoder.image.state.ChunkLayout.{ChunkLayout}
 pub use Rattle.tiff_encode.specs.declared.encoder.image.state.Chunk.{Chunk}
-use Rattle.tiff_encode.specs.FileBytes.{header_mark, header_bytes}
-use Rattle.tiff_encode.specs.WriteOps.{WriteOp, bytes_after}
+use Rattle.tiff_value.specs.FileBytes.{header_mark, header_bytes}
+use Rattle.tiff_value.specs.WriteOps.{WriteOp, bytes_after}
 
 -- the compression method of the chunks
 abbrev pub compression_method : Compression → CompressionMethod
@@ -46,9 +46,9 @@ pub record OpenDirectory : Type 0 where
   pub chained : Bool
 
 -- an open image: its directory; its width and height, where a column is a pixel, or a byte of
--- packed pixels; the number of pixels of a row; its color type, the number of bytes of a sample, its
--- extra samples, its predictor, its compression, the layout of its chunks in columns and rows, and
--- the chunks in the file
+-- packed pixels; the number of pixels of a row; its color type, the number of bytes of a sample,
+-- its extra samples, its predictor, its compression, the layout of its chunks in columns and rows,
+-- and the chunks in the file
 pub record OpenImage : Type 0 where
   pub directory : OpenDirectory
   pub width : ℕ

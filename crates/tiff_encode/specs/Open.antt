@@ -19,9 +19,9 @@ use Rattle.tiff_value.specs.ColorTypes.{color_type, inner_size}
 use Rattle.tiff_value.specs.Data.{FieldData, Scalars, u16s}
 use Rattle.tiff_page.specs.Checks.{is_page_tag}
 use Rattle.tiff_page.specs.Counts.{all_chunks}
-use Rattle.tiff_encode.specs.FileBytes.{offset_len}
-use Rattle.tiff_encode.specs.Model.{In, Model, FileContains, Grows}
-use Rattle.tiff_encode.specs.WriteOps.{model_after, standing_fields}
+use Rattle.tiff_value.specs.FileBytes.{offset_len}
+use Rattle.tiff_value.specs.Model.{In, Model, FileContains, Grows}
+use Rattle.tiff_value.specs.WriteOps.{model_after, standing_fields}
 use Rattle.tiff_encode.specs.Machine.{FileState, OpenDirectory, Chunk, OpenImage, WriteOutcome, WriteCall}
 use Rattle.tiff_encode.specs.Drawn.{IsSide, IsForm, HoldsPixels}
 use Rattle.tiff_encode.specs.Chunks.{all_samples, image_page, chunk_samples, is_left}

@@ -9,13 +9,13 @@ use Rattle.tiff_base.specs.declared.tags.FileKind.{FileKind}
 use Rattle.tiff_base.specs.Directory.{link_offset}
 use Rattle.tiff_base.specs.Field.{Field}
 use Rattle.tiff_value.specs.Data.{FieldData}
-use Rattle.tiff_encode.specs.FileBytes.{offset_len, directory_bytes}
+use Rattle.tiff_value.specs.FileBytes.{offset_len, directory_bytes}
 use Rattle.tiff_encode.specs.Machine.{FileState, OpenDirectory}
 use Rattle.tiff_encode.specs.Encoder.{AppendIsCut, IsTorn}
 use Rattle.tiff_encode.specs.FileWrites.{file_with_bytes}
 use Rattle.tiff_encode.specs.Causes.{is_past, is_past_count, end_of}
-use Rattle.tiff_encode.specs.Value.{is_long, field_at}
-use Rattle.tiff_encode.specs.WriteOps.{bytes_after}
+use Rattle.tiff_value.specs.Fields.{is_long, field_at}
+use Rattle.tiff_value.specs.WriteOps.{bytes_after}
 use Rattle.tiff_encode.specs.Calls.{links_to}
 
 -- the error of a field of a number of values and a number of bytes, at the end of a file of a

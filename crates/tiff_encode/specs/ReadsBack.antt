@@ -18,7 +18,7 @@ use Rattle.tiff_page.specs.Pixels.{tabulate}
 use Rattle.tiff_page.specs.Row.{IsSize}
 use Rattle.tiff_page.specs.PixelCalls.{image_of}
 use Rattle.tiff_page.specs.Image.{Decoded}
-use Rattle.tiff_encode.specs.Model.{Model}
+use Rattle.tiff_value.specs.Model.{Model}
 use Rattle.tiff_encode.specs.Machine.{FileState, OpenImage}
 use Rattle.tiff_encode.specs.Chunks.{all_samples, shown_page}
 use Rattle.tiff_encode.specs.Open.{IsOpen}

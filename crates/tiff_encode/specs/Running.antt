@@ -9,7 +9,7 @@ use Rattle.tiff_encode.specs.declared.encoder.script.ImageJob.{ImageJob}
 use Rattle.tiff_encode.specs.declared.encoder.script.Job.{Job}
 use Rattle.tiff_encode.specs.declared.encoder.script.Job.TheVariants as job
 use Rattle.tiff_encode.specs.declared.encoder.script.JobReply.{JobReply}
-use Rattle.tiff_encode.specs.Model.{In, IsLink, Grows}
+use Rattle.tiff_value.specs.Model.{In, IsLink, Grows}
 use Rattle.tiff_encode.specs.Machine.{FileState, OpenDirectory, OpenImage}
 use Rattle.tiff_encode.specs.Calls.{Offsets}
 use Rattle.tiff_encode.specs.Open.{RecordsImage}

@@ -24,8 +24,8 @@ use Rattle.tiff_page.specs.Checks.{page_of}
 use Rattle.tiff_page.specs.Layout.{row_bytes, color_of}
 use Rattle.tiff_page.specs.Counts.{all_chunks}
 use Rattle.tiff_page.specs.Pixels.{planar_or, image_region, is_short, packed_byte, shown_sample}
-use Rattle.tiff_encode.specs.FileBytes.{rows_per_strip}
-use Rattle.tiff_encode.specs.Model.{IsLink, FileContains, header_model}
+use Rattle.tiff_value.specs.FileBytes.{rows_per_strip}
+use Rattle.tiff_value.specs.Model.{IsLink, FileContains, header_model}
 
 -- an image from the caller: its page, for any offsets and byte counts of its chunks; and its
 -- sample, as bits, for a column, a row and a number of a sample of the pixel. A column is a pixel,

@@ -7,7 +7,7 @@ use Rattle.tiff_encode.specs.declared.encoder.script.ImageStep.{ImageStep}
 use Rattle.tiff_encode.specs.declared.encoder.script.Job.{Job}
 use Rattle.tiff_encode.specs.declared.encoder.script.JobReply.{JobReply}
 use Rattle.tiff_encode.specs.declared.encoder.script.StepReply.{StepReply}
-use Rattle.tiff_encode.specs.Model.{In, IsLink, FileContains, Grows}
+use Rattle.tiff_value.specs.Model.{In, IsLink, FileContains, Grows}
 use Rattle.tiff_encode.specs.Machine.{FileState, OpenImage}
 use Rattle.tiff_encode.specs.Calls.{Offsets}
 use Rattle.tiff_encode.specs.Held.{image_with}

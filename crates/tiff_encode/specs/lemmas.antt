@@ -2,12 +2,9 @@
 pub mod Data
 pub mod FormerBytes
 pub mod GoingOn
-pub mod Header
 pub mod ImageState
 pub mod JobSamples
-pub mod Kept
 pub mod LongerChain
 pub mod NumbersIn
 pub mod Samples
 pub mod Shown
-pub mod Slices

@@ -11,20 +11,16 @@ mod limits;
 pub mod script;
 mod settings;
 
-ghost use Rattle.std.specs.List.{flat_map};
-ghost use Rattle.std.specs.Prelude.{◌≡◌, ℕ, ◌+◌, ◌%◌, ◌^◌, ◌<◌, ◌≤◌, [], length, map, IfOk, IsSome, MatchResult, false};
-ghost use Rattle.tiff_base.specs.Number.{le};
-ghost use Rattle.tiff_base.specs.Types.{type_size};
+ghost use Rattle.std.specs.Prelude.{◌≡◌, ℕ, ◌+◌, ◌%◌, ◌<◌, ◌≤◌, [], length, IfOk, IsSome, MatchResult, false};
 ghost use Rattle.tiff_base.specs.declared.tags.FileKind.TheVariants.{Big, Classic};
-ghost use Rattle.tiff_value.specs.ColorType.{sample_number};
-ghost use Rattle.tiff_value.specs.Differences.{differences};
+ghost use Rattle.tiff_value.specs.Predicted.{row_bytes};
 ghost use Rattle.tiff_encode.specs.Appending.{EndsInHeader, EndsIn, GoesOnBehind, continued_file, header_file_model, former_model};
-ghost use Rattle.tiff_encode.specs.FileBytes.{padding, offset_len};
+ghost use Rattle.tiff_value.specs.FileBytes.{padding, offset_len};
 ghost use Rattle.tiff_encode.specs.Calls as calls;
 ghost use Rattle.tiff_encode.specs.Causes.{is_past};
 ghost use Rattle.tiff_encode.specs.Encoder.{HeaderFails};
 ghost use Rattle.tiff_encode.specs.Machine.{begun_file};
-ghost use Rattle.tiff_encode.specs.Model.{FinishedDirectory, header_link, own_link};
+ghost use Rattle.tiff_value.specs.Model.{FinishedDirectory, header_link, own_link};
 ghost use Rattle.tiff_encode.specs.Shows.{LeavesHeader};
 ghost use Rattle.tiff_encode.specs.FileWrites.{AppendsToFile, PointsLink};
 
@@ -40,7 +36,7 @@ use std::marker::{Model, PhantomData};
 use tiff_base::error::{TiffError, TiffResult};
 use tiff_base::io::{IoKind, Sink};
 pub use tiff_base::tags::Predictor;
-use tiff_value::encoder::chunk::write_chunk;
+use tiff_value::encoder::chunk::{SampleRows, write_chunk};
 use tiff_value::encoder::horizontal_predictor::Sample;
 use tiff_value::encoder::writer::TiffWriter;
 
@@ -146,8 +142,8 @@ impl<W: Sink, K: TiffKind> TiffEncoder<W, K> {
             → IfOk result
             (λ e. GoesOnBehind K.kind e.bytes e.chain (header_file_model K.kind (W.contents sink))) }
 
-        // If the link is that of a directory, this directory stays, and all bytes between the header
-        // and it, and behind it.
+        // If the link is that of a directory, this directory stays, and all bytes between the
+        // header and it, and behind it.
         ensures behind_directory { (first : ℕ) (d : FinishedDirectory)
             → EndsIn K.kind (W.contents sink) first d → link ≡ own_link K.kind d
             → IfOk result
@@ -219,24 +215,13 @@ impl<W: Sink, K: TiffKind> TiffEncoder<W, K> {
         self.writer.reserve(len);
     }
 
-    // Appends rows of samples to the file, as differences if `predictor` says so. No list of their
-    // bytes is allocated.
-    fn append_rows<T: Sample>(
-        &mut self,
-        samples: &[T],
-        predictor: Predictor,
-        row: usize,
-        stride: usize,
-    ) -> TiffResult<()>
-        requires stride { (0 < stride) × (stride ≤ row) }
-        requires whole { length samples.now % row ≡ 0 }
-        ensures { AppendsToFile
-            (flat_map (le (type_size T.value_type))
-            (differences predictor (256 ^ type_size T.value_type) row stride
-            (map (sample_number (type_size T.value_type) T.bits) samples.now))) self.old
-            self.new result }
+    // Appends rows of samples to the file. No list of their bytes is allocated.
+    fn append_rows<T: Sample>(&mut self, rows: SampleRows<'_, T>) -> TiffResult<()>
+        requires stride { (0 < rows.stride) × (rows.stride ≤ rows.row) }
+        requires whole { length rows.samples.now % rows.row ≡ 0 }
+        ensures { AppendsToFile (row_bytes T.value_type T.bits rows.entry) self.old self.new result }
     {
-        write_chunk(&mut self.writer, samples, predictor, row, stride)
+        write_chunk(&mut self.writer, rows)
     }
 
     // Appends zeros up to the next multiple of 4 bytes.

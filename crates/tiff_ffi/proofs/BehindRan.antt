@@ -4,7 +4,7 @@ use Rattle.tiff_base.specs.declared.error.TiffError.{TiffError}
 use Rattle.tiff_base.specs.declared.error.TiffError.TheVariants.{OutOfMemory}
 use Rattle.tiff_base.specs.declared.tags.FileKind.{FileKind}
 use Rattle.tiff_encode.specs.Appending.{Continues}
-use Rattle.tiff_encode.specs.FileBytes.{offset_len}
+use Rattle.tiff_value.specs.FileBytes.{offset_len}
 use Rattle.tiff_append.specs.declared.sink.Addition.{Addition}
 use Rattle.tiff_append.specs.Behind.{IsAddedTo, RunsAt, added_to}
 use Rattle.tiff_append.specs.lemmas.Behind.{continues, gathered, goes_on}

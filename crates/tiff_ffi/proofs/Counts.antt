@@ -43,13 +43,6 @@ count_below pages i parent within =
     let size : length (take i pages) ≡ i = length-take-le i pages within in
     omega (arith, some, size)
 
--- no page is counted
-pub none_counted : (n : ℕ) → AreCounts (replicate n 0) []
-none_counted n p within =
-    let z : ℕ = 0 in
-    let l : length (replicate n z) ≡ n = length-replicate n z in
-    get_or-replicate n p z z (omega (arith, within, l))
-
 module _ (counts : List ℕ) (pages : List NewPage) (i : ℕ) (d : NewPage) (within : i < length pages)
     (counted : AreCounts counts (take i pages)) where
   abbrev Parent : ℕ

@@ -7,8 +7,8 @@ use Rattle.tiff_base.specs.declared.error.TiffError.{TiffError}
 use Rattle.tiff_base.specs.declared.tags.Tag.{Tag}
 use Rattle.tiff_base.specs.Field.{Field}
 use Rattle.tiff_value.specs.Data.{FieldData, Scalars, data_of}
-use Rattle.tiff_encode.specs.Value.{is_long, field_at}
-use Rattle.tiff_encode.specs.WriteOps.{WriteOp, Appended, Supplied, Listed, all_appended}
+use Rattle.tiff_value.specs.Fields.{is_long, field_at}
+use Rattle.tiff_value.specs.WriteOps.{WriteOp, Appended, Supplied, Listed, all_appended}
 use Rattle.tiff_encode.specs.Machine.{FileState, OpenDirectory, OpenImage, WriteOutcome, WriteCall, answers, gives, does, by_cause, and_then, ◌>>=◌}
 use Rattle.tiff_encode.specs.Causes.{end_of, write_tag_cause, parent_cause, finish_cause, write_chunk_cause}
 use Rattle.tiff_encode.specs.Calls.{Offsets, offsets_of, links_to, chains, placed_field, write_entry, write_tag, write_tags, with_field, finish, with_chunk, appends_chunk, write_chunk, write_chunks, last_tags, finish_image}

@@ -8,10 +8,10 @@ use Rattle.tiff_base.specs.declared.tags.PhotometricInterpretation.TheVariants a
 use Rattle.tiff_base.specs.declared.tags.Tag.{Tag}
 use Rattle.tiff_value.specs.ColorType.{ColorTypeRecord}
 use Rattle.tiff_value.specs.Data.{FieldData, Scalars, data_of}
-use Rattle.tiff_encode.specs.FileBytes.{header_bytes, padding}
-use Rattle.tiff_encode.specs.Model.{SuppliedField}
-use Rattle.tiff_encode.specs.Value.{is_long}
-use Rattle.tiff_encode.specs.WriteOps.{Appended, Supplied, bytes_after}
+use Rattle.tiff_value.specs.FileBytes.{header_bytes, padding}
+use Rattle.tiff_value.specs.Model.{SuppliedField}
+use Rattle.tiff_value.specs.Fields.{is_long}
+use Rattle.tiff_value.specs.WriteOps.{Appended, Supplied, bytes_after}
 use Rattle.tiff_encode.specs.Machine.{FileState, OpenDirectory, OpenImage, WriteCall, gives, answers, ◌>>=◌}
 use Rattle.tiff_encode.specs.Causes.{end_of, begin_cause, write_tag_cause, new_image_cause}
 use Rattle.tiff_encode.specs.Calls.{placed_field, write_entry, write_tag, write_tags, meaning_tags, chroma_tags, layout_tags, first_tags, pad, image_directory, new_directory, new_image, image_in, with_field}

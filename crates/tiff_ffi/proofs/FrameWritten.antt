@@ -14,15 +14,15 @@ use Rattle.tiff_value.specs.ColorTypes.{color_type, inner_size}
 use Rattle.tiff_page.specs.Pixels.{numbers_in}
 use Rattle.tiff_page.specs.Row.{IsSize}
 use Rattle.tiff_page.specs.lemmas.Rows.{some_size}
-use Rattle.tiff_encode.specs.Model.{header_model}
+use Rattle.tiff_value.specs.Model.{header_model}
 use Rattle.tiff_encode.specs.Machine.{FileState, OpenImage}
 use Rattle.tiff_encode.specs.Causes.{end_of, image_samples}
 use Rattle.tiff_encode.specs.Calls.{image_in}
 use Rattle.tiff_encode.specs.ImageData.{AreNumbers, IsShortFile}
 use Rattle.tiff_encode.specs.Open.{IsOpen}
 use Rattle.tiff_encode.specs.Shows.{ShowsFirst}
-use Rattle.tiff_encode.specs.lemmas.Header.{header_stands}
-use Rattle.tiff_encode.specs.lemmas.Shown.Bytes.{length_written}
+use Rattle.tiff_value.specs.lemmas.File.Header.{header_stands}
+use Rattle.tiff_page.specs.lemmas.WrittenNumbers.{length_written}
 use Rattle.tiff_encode.specs.lemmas.NumbersIn.{numbers_small, whole_numbers}
 use Rattle.tiff_encode.specs.lemmas.Shown.Color.{of_family}
 use Rattle.tiff_encode.specs.lemmas.Shown.Parts.{parts_show}

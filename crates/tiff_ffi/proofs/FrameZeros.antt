@@ -21,7 +21,7 @@ use Rattle.tiff_encode.specs.Machine.{FileState, OpenImage}
 use Rattle.tiff_encode.specs.Causes.{unless_ended, image_samples, is_past_chunks, write_image_data_cause}
 use Rattle.tiff_encode.specs.Chunks.{all_samples, image_page, is_in_order, chunk_rows, row_samples, chunk_samples, chunks_left, is_begun, is_left, next_chunk_sample_count, parts_left, cut_out}
 use Rattle.tiff_encode.specs.Calls.{image_in, new_image, write_chunk}
-use Rattle.tiff_encode.specs.Model.{header_model}
+use Rattle.tiff_value.specs.Model.{header_model}
 use Rattle.tiff_encode.specs.Drawn.{IsValidImage}
 use Rattle.tiff_encode.specs.Parts.{next_part, WritesPart}
 use Rattle.tiff_encode.specs.Storing.{WritesStoredChunk}

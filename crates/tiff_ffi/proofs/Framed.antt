@@ -13,9 +13,9 @@ use Rattle.tiff_base.specs.SourceAndSink.{put}
 use Rattle.tiff_value.specs.ColorType.{columns_of}
 use Rattle.tiff_value.specs.ColorTypes.{color_type, inner_size}
 use Rattle.tiff_encode.specs.declared.encoder.settings.Compression.TheVariants.{Uncompressed}
-use Rattle.tiff_encode.specs.FileBytes.{offset_len, directory_bytes, header_mark}
-use Rattle.tiff_encode.specs.Model.{header_link}
-use Rattle.tiff_encode.specs.WriteOps.{WriteOp, Appended, Supplied, Listed, Linked, bytes_after}
+use Rattle.tiff_value.specs.FileBytes.{offset_len, directory_bytes, header_mark}
+use Rattle.tiff_value.specs.Model.{header_link}
+use Rattle.tiff_value.specs.WriteOps.{WriteOp, Appended, Supplied, Listed, Linked, bytes_after}
 use Rattle.tiff_encode.specs.Machine.{FileState, OpenDirectory, OpenImage, WriteOutcome, after_ops, by_cause, ◌>>=◌}
 use Rattle.tiff_encode.specs.Causes.{end_of, image_samples, write_image_data_cause}
 use Rattle.tiff_encode.specs.Chunks.{image_page, row_samples, parts_left}
@@ -24,8 +24,8 @@ use Rattle.tiff_encode.specs.Ends.{EndsAsDefined}
 use Rattle.tiff_encode.specs.ImageData.{WritesImage, WritesDataBy}
 use Rattle.tiff_encode.specs.Open.{IsOpen}
 use Rattle.tiff_encode.specs.Stored.{AreStored, IsCompressed, unpacked_chunk}
-use Rattle.tiff_encode.specs.lemmas.Slices.{length-le}
-use Rattle.tiff_encode.specs.lemmas.Shown.Bytes.{length_written}
+use Rattle.tiff_base.specs.lemmas.Slices.{length-le}
+use Rattle.tiff_page.specs.lemmas.WrittenNumbers.{length_written}
 use Rattle.tiff_encode.proofs.Joining.{bind_told}
 use Rattle.tiff_encode.proofs.Data.Begun.{new_adding, new_is}
 use Rattle.tiff_encode.proofs.Data.Calls.{AreAt}

@@ -4,7 +4,7 @@ use Rattle.std.proofs.lemmas.List.{take_min}
 use Rattle.std.proofs.lemmas.Simd.{map-map}
 use Rattle.tiff_base.specs.declared.error.TiffError.{TiffError}
 use Rattle.tiff_base.specs.declared.tags.FileKind.{FileKind}
-use Rattle.tiff_encode.specs.Model.{header_link}
+use Rattle.tiff_value.specs.Model.{header_link}
 use Rattle.tiff_ffi.specs.declared.pages_around.FramedAnswer.{FramedAnswer}
 use Rattle.tiff_ffi.specs.declared.pages_around.FramedAnswer.TheVariants.{Ran, Refused}
 use Rattle.tiff_ffi.specs.declared.pages_around.FramedPages.{FramedPages}

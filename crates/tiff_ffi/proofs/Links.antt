@@ -14,8 +14,8 @@ use Rattle.tiff_base.specs.declared.tags.Tag.TheVariants.{SubIfd}
 use Rattle.tiff_base.specs.Directory.{directory_at}
 use Rattle.tiff_base.specs.Field.{DirectoryRecord, Field}
 use Rattle.tiff_ifd.specs.TagLookup.{ok_or_fault}
-use Rattle.tiff_encode.specs.FileBytes.{offset_len}
-use Rattle.tiff_encode.specs.lemmas.Slices.{ok_inj}
+use Rattle.tiff_value.specs.FileBytes.{offset_len}
+use Rattle.tiff_base.specs.lemmas.Slices.{ok_inj}
 use Rattle.tiff_append.specs.Behind.{RefusesLink}
 use Rattle.tiff_append.specs.lemmas.Behind.{out_of_memory}
 use Rattle.tiff_ffi.specs.Pages.{◌>>=◌, links_at, place_of, placed_at, slot_at, sub_ifds, within}

@@ -31,11 +31,6 @@ both_more a b c =
     let children = sym (append_assoc a.children b.children c.children) in
     λ i. record { numbers = numbers i; chain = chain i; children = children i }
 
--- nothing is before the first page, and nothing behind the last
-pub behind_none : {E : Type 0} (r : Result PagesView E) → behind no_jobs r ≡ r
-behind_none (Ok v) = refl
-behind_none (Err e) = refl
-
 pub none_behind : (a : PagesView) → both a no_jobs ≡ a
 none_behind a =
     let numbers = append-nil a.numbers in

@@ -7,8 +7,8 @@ use Rattle.tiff_base.specs.declared.tags.ByteOrder.TheVariants.{LittleEndian}
 use Rattle.tiff_base.specs.declared.tags.FileKind.{FileKind}
 use Rattle.tiff_base.specs.Directory.{offset_width}
 use Rattle.tiff_base.specs.Number.{number}
-use Rattle.tiff_encode.specs.FileBytes.{offset_len}
-use Rattle.tiff_encode.specs.Model.{header_link}
+use Rattle.tiff_value.specs.FileBytes.{offset_len}
+use Rattle.tiff_value.specs.Model.{header_link}
 use Rattle.tiff_append.specs.Behind.{added_to}
 use Rattle.tiff_append.specs.LastLink.{last_link}
 use Rattle.tiff_append.specs.declared.last_link.LastLink.{LastLink}

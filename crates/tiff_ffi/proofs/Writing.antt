@@ -15,16 +15,16 @@ use Rattle.tiff_page.specs.Pixels.{numbers_in}
 use Rattle.tiff_encode.specs.JobSamples.{samples_of_type}
 use Rattle.tiff_encode.specs.JobValues.{cut_to}
 use Rattle.tiff_encode.specs.lemmas.JobSamples.{whole_cut}
-use Rattle.tiff_encode.specs.lemmas.Slices.{ok_inj}
-use Rattle.tiff_encode.specs.FileBytes.{header_bytes}
-use Rattle.tiff_encode.specs.Model.{Model, IsLink, FileContains, header_model}
+use Rattle.tiff_base.specs.lemmas.Slices.{ok_inj}
+use Rattle.tiff_value.specs.FileBytes.{header_bytes}
+use Rattle.tiff_value.specs.Model.{Model, IsLink, FileContains, header_model}
 use Rattle.tiff_encode.specs.Machine.{FileState, begun_file}
 use Rattle.tiff_encode.specs.Calls.{with_compression, with_predictor}
 use Rattle.tiff_encode.specs.Shows.{ShowsFirst}
 use Rattle.tiff_encode.specs.ImageData.{WritesImage, LeavesImage, LeavesNewImage, image_of_samples}
 use Rattle.tiff_encode.proofs.Data.Begun.{new_is}
 use Rattle.tiff_encode.proofs.Shown.Gray.{first_shown}
-use Rattle.tiff_encode.specs.lemmas.Header.{header_stands}
+use Rattle.tiff_value.specs.lemmas.File.Header.{header_stands}
 use Rattle.tiff_ffi.specs.declared.writer.Settings.{Settings}
 use Rattle.tiff_ffi.specs.Writer.{IsWritten, WritesImageFile, WritesBytes, file_by, image_by, samples_from_bytes}
 use Rattle.tiff_ffi.proofs.Framed.{chain_of}

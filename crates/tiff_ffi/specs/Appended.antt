@@ -9,7 +9,7 @@ use Rattle.tiff_base.specs.declared.tags.FileKind.{FileKind}
 use Rattle.tiff_base.specs.Directory.{offset_width}
 use Rattle.tiff_base.specs.Number.{number}
 use Rattle.tiff_encode.specs.declared.encoder.script.JobReply.{JobReply}
-use Rattle.tiff_encode.specs.FileBytes.{offset_len}
+use Rattle.tiff_value.specs.FileBytes.{offset_len}
 use Rattle.tiff_append.specs.declared.last_link.LastLink.{LastLink}
 use Rattle.tiff_append.specs.Behind.{RunsAt, added_to}
 use Rattle.tiff_append.specs.LastLink.{last_link}

@@ -23,7 +23,8 @@ is_in_place kind f = nat_le (field_len f) (byte_len (offset_width kind))
 abbrev pub flag : Bool → ℕ
 flag b = if b then 1 else 0
 
--- the offset of the values of a field that are elsewhere in the file; 0 for those in the value field
+-- the offset of the values of a field that are elsewhere in the file; 0 for those in the value
+-- field
 abbrev pub values_at : FileKind → ByteOrder → Field → ℕ
 values_at kind order f = if is_in_place kind f then 0 else field_offset kind order f
 

@@ -45,9 +45,9 @@ use Rattle.tiff_encode.specs.declared.encoder.script.Job.{Job}
 use Rattle.tiff_encode.specs.declared.encoder.script.Job.TheVariants as job
 use Rattle.tiff_encode.specs.declared.encoder.script.JobReply.{JobReply}
 use Rattle.tiff_encode.specs.declared.encoder.settings.Compression.{Compression}
-use Rattle.tiff_encode.specs.FileBytes.{offset_len}
+use Rattle.tiff_value.specs.FileBytes.{offset_len}
 use Rattle.tiff_encode.specs.JobValues.{buffer_in}
-use Rattle.tiff_encode.specs.Model.{header_link}
+use Rattle.tiff_value.specs.Model.{header_link}
 use Rattle.tiff_ffi.specs.declared.pages.ChildJobs.{ChildJobs}
 use Rattle.tiff_ffi.specs.declared.pages.NewPage.{NewPage}
 use Rattle.tiff_ffi.specs.declared.pages.NewTag.{NewTag}
@@ -167,7 +167,8 @@ IsOut e = e ≡ OutOfMemory
 abbrev pub IsOutAt : Refusal → Type 0
 IsOutAt refusal = refusal.fault ≡ OutOfMemory
 
--- Memory was out at a page of the list, which are counted from 1; before any was seen, at the first.
+-- Memory was out at a page of the list, which are counted from 1; before any was seen, at the
+-- first.
 abbrev pub IsOutIn : List NewPage → ℕ × Refusal → Type 0
 IsOutIn pages at = IsOutAt at.1 × ((0 < at.0) × (at.0 ≤ max 1 (length pages)))
 
@@ -618,8 +619,9 @@ pub record ChildRan (kind : FileKind) (child : ChildJobs) (file : List ℕ) (q :
   pub goes_on : Unless (refused_in (child.page ∷ []) child.jobs.items replies) left
       (By (link_at kind left q) (Follows left)) outcome
 
--- Pages with parents are run one after another, each at the next link of its parent, up to the first
--- that is refused. `places` are the offsets of the directories so far, each at the number of its page.
+-- Pages with parents are run one after another, each at the next link of its parent, up to the
+-- first that is refused. `places` are the offsets of the directories so far, each at the number of
+-- its page.
 abbrev pub ChildrenRan : FileKind → ℕ → List ChildJobs → List ℕ → List ℕ
     → Result LeftPages TiffError → Type 0
 ChildrenRan kind floor [] places file outcome = outcome ≡ Ok (file, None)

@@ -36,8 +36,8 @@ Puts kind q page left old new None = (at : ℕ)
     × ((link_at kind left q ≡ Ok at) × (new ≡ slice_set old page at))
 Puts kind q page left old new (Some refused) = Unit {0}
 
--- A page with a parent is run, and the offset of its directory put at its number, unless the page is
--- refused.
+-- A page with a parent is run, and the offset of its directory put at its number, unless the page
+-- is refused.
 pub record StepRan (kind : FileKind) (floor : ℕ) (child : ChildJobs) (old file new left : List ℕ)
     (refused : Option RefusedPage) : Type 0 where
   pub slot : ℕ

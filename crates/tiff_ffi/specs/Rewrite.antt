@@ -31,8 +31,8 @@ abbrev pub IsRewritten : List ℕ → PlannedPage → ℕ → List ℕ → List 
 IsRewritten file numbers chunk samples old new = (plan : PagePlan) → plan_from numbers ≡ Ok plan
     → PlannedRewritten file plan chunk samples old new
 
--- After the new bytes of a chunk are put where it is, a read of the chunk by these numbers gives the
--- samples, if they still find it there.
+-- After the new bytes of a chunk are put where it is, a read of the chunk by these numbers gives
+-- the samples, if they still find it there.
 abbrev pub ShowsSamples : List ℕ → PlannedPage → ℕ → List ℕ → List ℕ → Type 0
 ShowsSamples file numbers chunk samples new = (place : PlacedChunk) (slice : List ℕ)
     → chunk_place file numbers chunk ≡ Ok place

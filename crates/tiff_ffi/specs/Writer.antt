@@ -157,8 +157,8 @@ abbrev pub joined_parts : FrameLengths → List ℕ → List ℕ → List ℕ
 joined_parts len samples buffer = take len.front buffer
     ++ (take len.samples samples ++ take len.behind (drop len.front buffer))
 
--- The parts of a file that aren't samples are put at the front of a buffer, one behind the other, if
--- they fit, and the rest of the buffer stays; else the whole buffer stays.
+-- The parts of a file that aren't samples are put at the front of a buffer, one behind the other,
+-- if they fit, and the rest of the buffer stays; else the whole buffer stays.
 abbrev pub PutsParts : List ℕ → List ℕ → ℕ → List ℕ → List ℕ → FrameLengths → Type 0
 PutsParts file samples status old new len =
     ((len.front + len.behind ≤ length old)

@@ -4,7 +4,7 @@ ghost use Rattle.std.specs.Prelude.{◌≡◌, ◌+◌, ◌≤◌, length};
 ghost use Rattle.tiff_base.specs.declared.tags.ByteOrder.TheVariants.{LittleEndian};
 ghost use Rattle.tiff_base.specs.Directory.{offset_width};
 ghost use Rattle.tiff_base.specs.Number.{number};
-ghost use Rattle.tiff_encode.specs.FileBytes.{offset_len};
+ghost use Rattle.tiff_value.specs.FileBytes.{offset_len};
 ghost use Rattle.tiff_ffi.specs.Appended.{AnswersAppend, AnswersBehind, EndsBehind, TellsAppended, appended_to};
 
 use crate::pages::{
@@ -20,8 +20,8 @@ use tiff_base::read::{u32_in, u64_in};
 use tiff_base::tags::{ByteOrder, FileKind};
 use tiff_encode::encoder::{TiffKind, TiffKindBig, TiffKindStandard};
 
-/// What a file gets: how many bytes behind it; the offset of its last link, the number that the link
-/// gets, and of how many bytes, the lowest first; and where the list of pages was refused.
+/// What a file gets: how many bytes behind it; the offset of its last link, the number that the
+/// link gets, and of how many bytes, the lowest first; and where the list of pages was refused.
 #[derive(Clone, Copy, Debug, PartialEq, Eq)]
 #[repr(C)]
 pub struct Appended {

@@ -14,8 +14,8 @@ use tiff_base::io::IoKind;
 use tiff_base::tags::{ByteOrder, FileKind, Tag, Type};
 use tiff_encode::encoder::script::{DirectoryStep, ImageStep, JobBuffer};
 
-// Counts the page at an index, by its parent, behind those before it. Returns how many of these have
-// the same parent. A parent without a count isn't counted.
+// Counts the page at an index, by its parent, behind those before it. Returns how many of these
+// have the same parent. A parent without a count isn't counted.
 pub(crate) fn count_page(counts: &mut Vec<usize>, pages: &[NewPage<'_>], i: usize) -> usize
     requires within { i < length pages.now }
     requires counted { AreCounts counts.old.items (take i pages.now) }

@@ -18,9 +18,9 @@ use tiff_pages::tree::{DirectoryItem, DirectoryList, Found, NamedBy, directories
 /// A place where a directory is named, as C gets it: the offset of the directory, or that of the
 /// directory with the tag if the tag's values can't be read; the offset of the directory with the
 /// tag, or 0 in the chain; the number of the directory's fields, or 0; the depth, 0 in the chain;
-/// the number of the tag, or 0 in the chain; the number of what is found; the number of the error by
-/// which the directory or the tag's values can't be read, or 0; and the directory's page, with its
-/// own offset and error, or zeros where there is no directory.
+/// the number of the tag, or 0 in the chain; the number of what is found; the number of the error
+/// by which the directory or the tag's values can't be read, or 0; and the directory's page, with
+/// its own offset and error, or zeros where there is no directory.
 #[derive(Clone, Copy, Debug, PartialEq, Eq)]
 #[repr(C)]
 pub struct ListedDirectory {
@@ -136,9 +136,9 @@ fn list_directories(alloc: Global, file: &[u8]) -> TiffResult<DirectoryList>
     listed
 }
 
-/// Puts listed directories into `out`, as many as fit, and how many there are into `count`, which is 0
-/// before. Returns the number of the error by which their chain ends, or 0; for an error of the list
-/// its number.
+/// Puts listed directories into `out`, as many as fit, and how many there are into `count`, which
+/// is 0 before. Returns the number of the error by which their chain ends, or 0; for an error of
+/// the list its number.
 pub fn tell_directories(
     listed: TiffResult<DirectoryList>,
     out: &mut [ListedDirectory],

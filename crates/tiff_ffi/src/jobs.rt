@@ -30,9 +30,9 @@ pub struct JobsEnd {
 
 const NO_END: JobsEnd = JobsEnd { line: 0, job: 0 };
 
-/// What jobs left that were run: their file; the number, from 1, of the first job that had an error,
-/// with the status of that error; and the number, from 0, of the step of that job that had it, or
-/// none if the end of the job had it.
+/// What jobs left that were run: their file; the number, from 1, of the first job that had an
+/// error, with the status of that error; and the number, from 0, of the step of that job that had
+/// it, or none if the end of the job had it.
 #[derive(Drop)]
 pub struct Ran {
     pub file: Vec<u8>,
@@ -182,8 +182,8 @@ pub fn run_listed(alloc: Global, kind: FileKind, text: &[u8]) -> TiffResult<Answ
     }
 }
 
-/// Puts the file of jobs into a buffer if none of them had an error, and its length into `len`; else
-/// the number of the first job that had one into `end`, and returns the status of that error.
+/// Puts the file of jobs into a buffer if none of them had an error, and its length into `len`;
+/// else the number of the first job that had one into `end`, and returns the status of that error.
 pub fn tell_ran(ran: Ran, buffer: &mut [u8], len: &mut usize, end: &mut JobsEnd) -> u32
     ensures { TellsRan ran.file.items ran.refused result buffer.old buffer.new len.old len.new
         end.new }

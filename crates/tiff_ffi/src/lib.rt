@@ -171,9 +171,9 @@ pub fn read_chunks(
 
 /// Puts the plan of a page, what its tags define as numbers, into `plan`. By this plan
 /// `read_planned_chunk` reads each chunk as `read_chunk_bytes` reads it of the page, and
-/// `read_planned_chunks` several as `read_chunks` does. Returns 0, or the number of the first error:
-/// of the file or the page; of offsets or byte counts of chunks that aren't of type SHORT, LONG or
-/// LONG8, `InvalidTypeForTag`. An error leaves `plan` as it was.
+/// `read_planned_chunks` several as `read_chunks` does. Returns 0, or the number of the first
+/// error: of the file or the page; of offsets or byte counts of chunks that aren't of type SHORT,
+/// LONG or LONG8, `InvalidTypeForTag`. An error leaves `plan` as it was.
 #[tactic(auto, using(crate::proofs::StatusTells::puts_told, crate::proofs::Plans::given_reads))]
 pub fn page_plan(alloc: Global, file: &[u8], page: usize, plan: &mut PlannedPage) -> u32
     ensures answer { StatusPuts (plans.page_plan file.now page) result plan.old plan.new }
@@ -182,16 +182,16 @@ pub fn page_plan(alloc: Global, file: &[u8], page: usize, plan: &mut PlannedPage
     put_value(plan::page_plan(alloc, file, page), plan)
 }
 
-/// Reads the chunk with the number `chunk`, from 0, into `buffer`, by the plan of its page and under
-/// no limits: it reads the offset and the byte count of this chunk alone, and opens no page. Returns
-/// 0, or the number of the first error: of a number of the plan that names nothing, which is for the
-/// version `TiffSignatureInvalid`, for the byte order, the first extra sample, more than 255 bits or
-/// the kind of chunks `IoError(InvalidInput)`, for the interpretation `UnknownInterpretation`, for
-/// the predictor `UnknownPredictor`, for the planar configuration `UnknownPlanarConfiguration`, and
-/// for a type `InvalidTypeForTag`; of sizes that no page has, `InconsistentSizesEncountered`; of the
-/// chunk's offset and byte count; of the page's color or its layout; of a buffer shorter than the
-/// chunk, `InsufficientOutputBufferSize`; of the chunk. What an error leaves in `buffer` is not
-/// specified.
+/// Reads the chunk with the number `chunk`, from 0, into `buffer`, by the plan of its page and
+/// under no limits: it reads the offset and the byte count of this chunk alone, and opens no page.
+/// Returns 0, or the number of the first error: of a number of the plan that names nothing, which
+/// is for the version `TiffSignatureInvalid`, for the byte order, the first extra sample, more than
+/// 255 bits or the kind of chunks `IoError(InvalidInput)`, for the interpretation
+/// `UnknownInterpretation`, for the predictor `UnknownPredictor`, for the planar configuration
+/// `UnknownPlanarConfiguration`, and for a type `InvalidTypeForTag`; of sizes that no page has,
+/// `InconsistentSizesEncountered`; of the chunk's offset and byte count; of the page's color or its
+/// layout; of a buffer shorter than the chunk, `InsufficientOutputBufferSize`; of the chunk. What
+/// an error leaves in `buffer` is not specified.
 #[tactic(auto, using(crate::proofs::StatusTells::tells_left))]
 pub fn read_planned_chunk(
     alloc: Global,
@@ -205,10 +205,10 @@ pub fn read_planned_chunk(
     unit_status(plan::planned_chunk(alloc, file, plan, chunk, buffer))
 }
 
-/// Reads `count` chunks, from the number `first` on, into `buffer`, one behind the other, by the plan
-/// of their page and under no limits: of each it reads the offset and the byte count alone, and it
-/// opens no page. Returns 0, or the number of the first error: of a number of the plan that names
-/// nothing, as `read_planned_chunk` has it; `first` plus `count` of 2^32 or more,
+/// Reads `count` chunks, from the number `first` on, into `buffer`, one behind the other, by the
+/// plan of their page and under no limits: of each it reads the offset and the byte count alone,
+/// and it opens no page. Returns 0, or the number of the first error: of a number of the plan that
+/// names nothing, as `read_planned_chunk` has it; `first` plus `count` of 2^32 or more,
 /// `InvalidChunkIndex`; and then, chunk by chunk, of sizes that no page has,
 /// `InconsistentSizesEncountered`; of the page's color or its layout; of a buffer that has no room
 /// left for the chunk, `InsufficientOutputBufferSize`; of the chunk's offset and byte count; of the
@@ -228,10 +228,10 @@ pub fn read_planned_chunks(
     unit_status(plan::planned_chunks(alloc, file, plan, first, count, buffer))
 }
 
-/// Puts the offset and the byte count of the chunk with the number `chunk`, from 0, into `place`, by
-/// the plan of its page: it reads these two numbers alone. Returns 0, or the number of the first
-/// error: of a number of the plan that names nothing, as `read_planned_chunk`; of sizes that no page
-/// has, `InconsistentSizesEncountered`; of the chunk's offset and byte count; no such chunk,
+/// Puts the offset and the byte count of the chunk with the number `chunk`, from 0, into `place`,
+/// by the plan of its page: it reads these two numbers alone. Returns 0, or the number of the first
+/// error: of a number of the plan that names nothing, as `read_planned_chunk`; of sizes that no
+/// page has, `InconsistentSizesEncountered`; of the chunk's offset and byte count; no such chunk,
 /// `InconsistentSizesEncountered`. An error leaves `place` as it was.
 #[tactic(auto, using(crate::proofs::StatusTells::puts_told))]
 pub fn chunk_place(
@@ -246,17 +246,17 @@ pub fn chunk_place(
     put_value(rewrite::chunk_place(alloc, file, plan, chunk), place)
 }
 
-/// Makes the bytes that the file has of the chunk with the number `chunk`, from 0, from new samples,
-/// by the plan of its page. `samples` are as `read_planned_chunk` gives them; `stored` has the bytes
-/// of the file from the chunk's offset on, at least as many as the rows of the chunk need. Bytes that
-/// no sample needs stay as they are. Writes nothing to the file. Returns 0, or the number of the
-/// first error: of a number of the plan that names nothing, as `read_planned_chunk`; of sizes that no
-/// page has, `InconsistentSizesEncountered`; of the chunk's offset and byte count; of the page's color
-/// or its layout; of samples that aren't as many bytes as the chunk has, `IoError(InvalidData)`; of
-/// the chunk's form, as `read_planned_chunk`; of data that are packed, `UnsupportedCompressionMethod`;
-/// of byte planes, `FloatingPointPredictor`; of rows that need 2^64 stored bytes or more,
-/// `LimitsExceeded`; of fewer stored bytes than the rows need, `InsufficientOutputBufferSize`. An
-/// error leaves `stored` as it was.
+/// Makes the bytes that the file has of the chunk with the number `chunk`, from 0, from new
+/// samples, by the plan of its page. `samples` are as `read_planned_chunk` gives them; `stored` has
+/// the bytes of the file from the chunk's offset on, at least as many as the rows of the chunk
+/// need. Bytes that no sample needs stay as they are. Writes nothing to the file. Returns 0, or the
+/// number of the first error: of a number of the plan that names nothing, as `read_planned_chunk`;
+/// of sizes that no page has, `InconsistentSizesEncountered`; of the chunk's offset and byte count;
+/// of the page's color or its layout; of samples that aren't as many bytes as the chunk has,
+/// `IoError(InvalidData)`; of the chunk's form, as `read_planned_chunk`; of data that are packed,
+/// `UnsupportedCompressionMethod`; of byte planes, `FloatingPointPredictor`; of rows that need 2^64
+/// stored bytes or more, `LimitsExceeded`; of fewer stored bytes than the rows need,
+/// `InsufficientOutputBufferSize`. An error leaves `stored` as it was.
 pub fn rewrite_chunk(
     alloc: Global,
     file: &[u8],
@@ -410,8 +410,8 @@ pub fn tag_text(
 }
 
 /// Puts the entries of the directory of a page into `entries`, in the order of their tags, as many
-/// as fit, and how many there are into `count`, even if not all fit. Returns 0, or the number of the
-/// first error: of the file or the page. An error leaves `entries` and `count` as they were.
+/// as fit, and how many there are into `count`, even if not all fit. Returns 0, or the number of
+/// the first error: of the file or the page. An error leaves `entries` and `count` as they were.
 #[tactic(auto, using(crate::proofs::StatusTells::puts_both))]
 pub fn list_tags(
     alloc: Global,
@@ -446,8 +446,8 @@ pub fn page_count(alloc: Global, file: &[u8], pages: &mut usize) -> u32
 
 /// Puts the pages of a file into `pages`, along its chain of directories, as many as fit, and how
 /// many there are into `count`, even if not all fit. Returns 0, or the number of the error by which
-/// the chain ends. If the file's header is refused, or memory is out, it returns that error. `count`
-/// is then 0, and `pages` is as it was.
+/// the chain ends. If the file's header is refused, or memory is out, it returns that error.
+/// `count` is then 0, and `pages` is as it was.
 pub fn list_pages(alloc: Global, file: &[u8], pages: &mut [ListedPage], count: &mut usize) -> u32
     ensures { ListTells (list_of file.now) result pages.old pages.new count.new }
 {
@@ -540,23 +540,23 @@ pub fn write_jobs(
 
 /// Writes the file of these pages into `buffer`, puts how many bytes the file has into `len`, and
 /// puts where the list is refused into `end`. A page without a parent is in the file's chain of
-/// directories; any other one is in the tag SubIFDs of its parent, an earlier page (Adobe's technical
-/// note 1 on TIFF 6.0). Returns 0, or the number of the first error: of the version,
+/// directories; any other one is in the tag SubIFDs of its parent, an earlier page (Adobe's
+/// technical note 1 on TIFF 6.0). Returns 0, or the number of the first error: of the version,
 /// `TiffSignatureInvalid`; of the first page with a field that is refused, before any page is
 /// written; of the first page that the encoder refuses, of those in the chain, and then of the
 /// others; of a buffer that is too short, `InsufficientOutputBufferSize`. The fields are refused in
 /// this order: the color type, `IoError(InvalidInput)`; the method, `UnsupportedCompressionMethod`;
 /// the predictor, `UnknownPredictor`; the planar configuration, `UnknownPlanarConfiguration`; the
-/// unit of the resolutions, `IoError(InvalidInput)`; an extra sample, `IoError(InvalidInput)`; a tag,
-/// `UnsupportedDataType` for its type and `MismatchedEntryLength` for bytes that are not as many
-/// values as it says, and `IoError(InvalidInput)` for SubIFDs of a page that is a parent; samples
-/// that aren't as many tiles as the page has, if they are given by tiles, `IoError(InvalidData)`;
-/// samples with a part of one left over, `MismatchedEntryLength`; a parent that is no earlier page,
-/// `IoError(InvalidInput)`. An error leaves `buffer` as it was, and `len` too, unless only the buffer
-/// is too short. The call allocates the file and the bytes of the tags; and where a page has tiles,
-/// planes, a method or a predictor, its samples, one such page at a time, or one tile, if they have
-/// more than one byte or a sign. Where a page has a parent, the call allocates the offsets of the
-/// pages too, and the fields of a parent's directory at a time.
+/// unit of the resolutions, `IoError(InvalidInput)`; an extra sample, `IoError(InvalidInput)`; a
+/// tag, `UnsupportedDataType` for its type and `MismatchedEntryLength` for bytes that are not as
+/// many values as it says, and `IoError(InvalidInput)` for SubIFDs of a page that is a parent;
+/// samples that aren't as many tiles as the page has, if they are given by tiles,
+/// `IoError(InvalidData)`; samples with a part of one left over, `MismatchedEntryLength`; a parent
+/// that is no earlier page, `IoError(InvalidInput)`. An error leaves `buffer` as it was, and `len`
+/// too, unless only the buffer is too short. The call allocates the file and the bytes of the tags;
+/// and where a page has tiles, planes, a method or a predictor, its samples, one such page at a
+/// time, or one tile, if they have more than one byte or a sign. Where a page has a parent, the
+/// call allocates the offsets of the pages too, and the fields of a parent's directory at a time.
 #[tactic(auto, using(crate::proofs::Delivered::told_pages, crate::proofs::Delivered::kept_pages))]
 pub fn write_pages(
     alloc: Global,
@@ -575,14 +575,15 @@ pub fn write_pages(
 
 /// As `write_pages`, but puts into `buffer` only the bytes of the file that aren't the samples of
 /// the first `frame.framed` pages, one behind the other, and how many these bytes are into
-/// `frame.around`. The file has, for each of these pages, as many bytes of `buffer` as `fronts` says,
-/// behind those of the page before, and then the samples of the page; and at its end the bytes of
-/// `buffer` that are left. A page that is compressed, or has differences, or has tiles or planes
-/// and isn't given by its tiles, or has more samples than its image, isn't one of these pages, nor is
-/// any page behind it; nor is one where `fronts` has no place for it. If a page has a parent, or
-/// memory is short, `frame.framed` is 0. The errors are those of `write_pages`; an error leaves
-/// `buffer` and `fronts` as they were, and `frame` too, unless only the buffer is too short. The call
-/// allocates what it puts into `buffer`, and what `write_pages` allocates besides its file.
+/// `frame.around`. The file has, for each of these pages, as many bytes of `buffer` as `fronts`
+/// says, behind those of the page before, and then the samples of the page; and at its end the
+/// bytes of `buffer` that are left. A page that is compressed, or has differences, or has tiles or
+/// planes and isn't given by its tiles, or has more samples than its image, isn't one of these
+/// pages, nor is any page behind it; nor is one where `fronts` has no place for it. If a page has a
+/// parent, or memory is short, `frame.framed` is 0. The errors are those of `write_pages`; an error
+/// leaves `buffer` and `fronts` as they were, and `frame` too, unless only the buffer is too short.
+/// The call allocates what it puts into `buffer`, and what `write_pages` allocates besides its
+/// file.
 #[tactic(auto, using(crate::proofs::FramedPages::told_frame, crate::proofs::FramedPages::kept_frame))]
 pub fn pages_frame(
     alloc: Global,
@@ -602,18 +603,18 @@ pub fn pages_frame(
     tell_framed(answer, buffer, fronts, frame, end)
 }
 
-/// Writes these pages behind a little-endian TIFF file, classic or BigTIFF: puts the bytes to append
-/// to the file into `buffer`, and what they are, and the last link of the file's chain of
-/// directories, into `appended`. The caller's file has the pages once it has these bytes at its end,
-/// and then the `width` bytes of `target`, the lowest first, at the offset `link`; between the two
-/// it has its former pages. Returns 0, or the number of the first error: of the header, but for one
-/// that links to no directory; of a big-endian file, `ByteOrderMismatch`; the one by which the chain
-/// ends, as `CycleInOffsets`; of the pages, as `write_pages` finds them; of a buffer that is too
-/// short, `InsufficientOutputBufferSize`. An error leaves `buffer` as it was. For a buffer that is
-/// too short, `appended` is as without an error; after another error it has 0 everywhere, but for
-/// where the list of pages is refused. The call neither copies nor changes the file. It allocates
-/// the bytes to append, 8 bytes for the link, the offsets of the file's directories, and what
-/// `write_pages` allocates besides its file.
+/// Writes these pages behind a little-endian TIFF file, classic or BigTIFF: puts the bytes to
+/// append to the file into `buffer`, and what they are, and the last link of the file's chain of
+/// directories, into `appended`. The caller's file has the pages once it has these bytes at its
+/// end, and then the `width` bytes of `target`, the lowest first, at the offset `link`; between the
+/// two it has its former pages. Returns 0, or the number of the first error: of the header, but for
+/// one that links to no directory; of a big-endian file, `ByteOrderMismatch`; the one by which the
+/// chain ends, as `CycleInOffsets`; of the pages, as `write_pages` finds them; of a buffer that is
+/// too short, `InsufficientOutputBufferSize`. An error leaves `buffer` as it was. For a buffer that
+/// is too short, `appended` is as without an error; after another error it has 0 everywhere, but
+/// for where the list of pages is refused. The call neither copies nor changes the file. It
+/// allocates the bytes to append, 8 bytes for the link, the offsets of the file's directories, and
+/// what `write_pages` allocates besides its file.
 #[tactic(auto, using(crate::proofs::ToldBehind::told_appended, crate::proofs::ToldBehind::kept_appended))]
 pub fn append_pages(
     alloc: Global,

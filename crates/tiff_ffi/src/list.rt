@@ -150,9 +150,9 @@ pub fn end_status(end: &Option<TiffError>) -> u32
     }
 }
 
-/// Puts listed pages into `out`, as many as fit, and how many there are into `count`, which is 0 before.
-/// Returns the number of the error by which their chain ends, or 0; for an error of the list its
-/// number.
+/// Puts listed pages into `out`, as many as fit, and how many there are into `count`, which is 0
+/// before. Returns the number of the error by which their chain ends, or 0; for an error of the
+/// list its number.
 pub fn tell_pages(listed: TiffResult<PageList>, out: &mut [ListedPage], count: &mut usize) -> u32
     requires { count.old ≡ 0 }
     ensures { (pages : Result Pages TiffError) → AnswersWithoutSource pages_in listed pages

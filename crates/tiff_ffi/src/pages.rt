@@ -47,12 +47,12 @@ pub struct Fraction {
 /// A page to be written, by the numbers of TIFF: the color type by its number in
 /// `ColorTypeName::ALL`; the width and the height in pixels; the rows of a strip, or 0; the width
 /// and the length of a tile, or 0 and 0; the values of the tags Compression, Predictor and
-/// PlanarConfiguration; the unit of the resolutions, or 0 for none, and both resolutions; the values
-/// of the tag ExtraSamples; the tags of the caller's own; the samples, of each the lowest byte
-/// first, row by row, the samples of a pixel side by side; 0 for a page in the chain of directories,
-/// or the number, from 1, of the earlier page whose tag SubIFDs lists the page; and 0, or how many
-/// bytes a tile has, if the samples are those of the tiles, one tile after another as in the file,
-/// each with its padding.
+/// PlanarConfiguration; the unit of the resolutions, or 0 for none, and both resolutions; the
+/// values of the tag ExtraSamples; the tags of the caller's own; the samples, of each the lowest
+/// byte first, row by row, the samples of a pixel side by side; 0 for a page in the chain of
+/// directories, or the number, from 1, of the earlier page whose tag SubIFDs lists the page; and 0,
+/// or how many bytes a tile has, if the samples are those of the tiles, one tile after another as
+/// in the file, each with its padding.
 #[derive(Clone, Copy)]
 #[repr(C)]
 pub struct NewPage<'a> {
@@ -139,8 +139,8 @@ pub enum PagesAnswer {
     Ran(WrittenPages),
 }
 
-/// A page with a parent: its number and that of its parent, both from 1; how many earlier pages have
-/// this parent; and its jobs.
+/// A page with a parent: its number and that of its parent, both from 1; how many earlier pages
+/// have this parent; and its jobs.
 #[derive(Drop)]
 pub struct ChildJobs<'a> {
     pub page: usize,
@@ -158,8 +158,8 @@ pub struct PagesJobs<'a> {
     pub children: Vec<ChildJobs<'a>>,
 }
 
-/// Where a page is among others: its number, from 1; how many pages have it as their parent; and how
-/// many earlier pages have the same parent as the page.
+/// Where a page is among others: its number, from 1; how many pages have it as their parent; and
+/// how many earlier pages have the same parent as the page.
 #[derive(Clone, Copy)]
 pub struct Place {
     pub number: usize,
@@ -494,8 +494,8 @@ fn add_page<'a>(
     Ok(())
 }
 
-// Puts the jobs of pages behind the others; or returns the number of the first page that is refused,
-// from 1, and its refusal. `counts` are of all pages, and `seen` of none.
+// Puts the jobs of pages behind the others; or returns the number of the first page that is
+// refused, from 1, and its refusal. `counts` are of all pages, and `seen` of none.
 fn add_pages<'a>(
     alloc: Global,
     kind: FileKind,
@@ -671,8 +671,8 @@ pub fn run_pages(alloc: Global, version: u16, pages: &[NewPage<'_>]) -> TiffResu
     }
 }
 
-// Puts the file of pages into `buffer` and its length into `len` if none was refused; else where the
-// list was refused into `end`. Returns the status.
+// Puts the file of pages into `buffer` and its length into `len` if none was refused; else where
+// the list was refused into `end`. Returns the status.
 fn tell_written(pages: WrittenPages, buffer: &mut [u8], len: &mut usize, end: &mut PagesEnd) -> u32
     ensures { spec.TellsWritten pages.file.items pages.refused result buffer.old buffer.new len.old
         len.new end.new }

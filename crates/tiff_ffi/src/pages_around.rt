@@ -32,8 +32,8 @@ pub struct PagesLengths {
 }
 
 /// What pages left that were written: the bytes of their file that aren't samples elsewhere in
-/// memory; of each of the first pages how many of these are in front of its samples, behind those of
-/// the page before it; and the page that was refused.
+/// memory; of each of the first pages how many of these are in front of its samples, behind those
+/// of the page before it; and the page that was refused.
 #[derive(Drop)]
 pub struct FramedPages {
     pub around: Vec<u8>,
@@ -70,8 +70,8 @@ fn samples_of<'a>(
     all_samples(alloc, &pages[..most.min(pages.len())])
 }
 
-// Runs the jobs of pages in the chain around these samples, in a new file of the kind `K`. None where
-// memory is out, or the sink can't write a link.
+// Runs the jobs of pages in the chain around these samples, in a new file of the kind `K`. None
+// where memory is out, or the sink can't write a link.
 fn run_around<K: TiffKind, P: LentSamples>(
     alloc: Global,
     jobs: &PagesJobs<'_>,
@@ -123,8 +123,8 @@ fn run_chain(
     }
 }
 
-// Runs the jobs of pages in a new file of a kind, around the samples of so many of the first pages if
-// the file can be written so.
+// Runs the jobs of pages in a new file of a kind, around the samples of so many of the first pages
+// if the file can be written so.
 fn run_framed(
     alloc: Global,
     kind: FileKind,
@@ -160,8 +160,8 @@ fn frame_kind(
     }
 }
 
-/// Runs the jobs of pages for a file whose header has this version, around the samples of so many of
-/// the first pages. Its errors: those of `run_pages`.
+/// Runs the jobs of pages for a file whose header has this version, around the samples of so many
+/// of the first pages. Its errors: those of `run_pages`.
 pub fn frame_pages(
     alloc: Global,
     version: u16,
@@ -176,8 +176,8 @@ pub fn frame_pages(
     }
 }
 
-// Puts the bytes of a file that aren't samples into `buffer`, its fronts into `fronts`, and how many
-// both are into `lengths`. Returns the status.
+// Puts the bytes of a file that aren't samples into `buffer`, its fronts into `fronts`, and how
+// many both are into `lengths`. Returns the status.
 fn put_frame(
     framed: FramedPages,
     buffer: &mut [u8],
@@ -200,9 +200,9 @@ fn put_frame(
 }
 
 /// Puts the frame of a file of pages where C wants it, if none was refused; else where the list was
-/// refused into `end`. Returns the status: 0; the number of the error of a page that is refused; the
-/// status of the first page that had an error; the number of `InsufficientOutputBufferSize` for a
-/// buffer that is too short; or the number of the error of `answer`.
+/// refused into `end`. Returns the status: 0; the number of the error of a page that is refused;
+/// the status of the first page that had an error; the number of `InsufficientOutputBufferSize` for
+/// a buffer that is too short; or the number of the error of `answer`.
 pub fn tell_framed(
     answer: TiffResult<FramedAnswer>,
     buffer: &mut [u8],

@@ -10,9 +10,9 @@ use tiff_append::failed_writes::FailedWrites;
 use tiff_append::sink::{MAX_LEN, grow, overwrite_in};
 use tiff_base::io::{Sink, SinkFault};
 
-/// The samples of pages. Only contracts see them here, so a caller that passes `Brand` picks them. A
-/// sink has them in its type, since an encoder returns a sink of the same type, and says no more of it
-/// than its bytes.
+/// The samples of pages. Only contracts see them here, so a caller that passes `Brand` picks them.
+/// A sink has them in its type, since an encoder returns a sink of the same type, and says no more
+/// of it than its bytes.
 pub trait LentSamples {
     ghost use Rattle.std.specs.Prelude.{ℕ, List};
 
@@ -25,9 +25,9 @@ impl LentSamples for Brand {
     ghost samples = { [] };
 }
 
-/// The frame of a file of pages: the bytes that aren't samples which a caller has, in their order; and
-/// of each of the first pages how many of these are in front of its samples, behind those of the page
-/// before it.
+/// The frame of a file of pages: the bytes that aren't samples which a caller has, in their order;
+/// and of each of the first pages how many of these are in front of its samples, behind those of
+/// the page before it.
 #[derive(Drop)]
 pub struct PagesFrame {
     pub around: Vec<u8>,

@@ -10,7 +10,7 @@ ghost use Rattle.tiff_base.specs.declared.tags.ByteOrder.TheVariants.{LittleEndi
 ghost use Rattle.tiff_base.specs.Answers.{AnswersWithoutSource, Gives};
 ghost use Rattle.tiff_base.specs.Directory.{directory_at, entry_len, first_entry};
 ghost use Rattle.tiff_append.specs.Behind.{RefusesLink};
-ghost use Rattle.tiff_encode.specs.FileBytes.{offset_len};
+ghost use Rattle.tiff_value.specs.FileBytes.{offset_len};
 ghost use Rattle.tiff_ffi.specs.Pages.{ChildrenRan, GoesOn, PagesGoOn, chain_at, link_at, placed_at, slot_at};
 ghost use Rattle.tiff_ffi.specs.Pages as spec;
 ghost use Rattle.tiff_ffi.specs.Parents.{RanAt, StepFails, StepRan};
@@ -47,8 +47,9 @@ pub trait PagesFile: Drop {
     fn source(&self) -> AddedSource<'_>
         ensures { added_bytes result ≡ contents self.now };
 
-    /// Runs jobs with an encoder that goes on behind the file at a link, and appends their replies to
-    /// `replies`. Errors: `IoError(InvalidInput)` if the link isn't within the file; `OutOfMemory`.
+    /// Runs jobs with an encoder that goes on behind the file at a link, and appends their replies
+    /// to `replies`. Errors: `IoError(InvalidInput)` if the link isn't within the file;
+    /// `OutOfMemory`.
     fn run<K: TiffKind>(
         self,
         alloc: Global,

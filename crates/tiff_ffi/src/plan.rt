@@ -35,10 +35,11 @@ use tiff_pages::plan::{PagePlan, PlanReader, page_plan as page_plan_of, plans_re
 /// What the tags of a page define, as numbers: how many offsets and how many byte counts of chunks
 /// there are; the eight bytes of the value fields of their tags; the width and the height of the
 /// image and of a chunk, in pixels; the version in the file's header; the number of its byte order;
-/// the values of the tags PhotometricInterpretation, Compression and SamplesPerPixel; how many extra
-/// samples there are, and the value for the first one, or 0; the values of the tags SampleFormat,
-/// BitsPerSample, Predictor and PlanarConfiguration; the number of the chunks' kind; both values of
-/// the tag YCbCrSubSampling; and the numbers of the types of the offsets and of the byte counts.
+/// the values of the tags PhotometricInterpretation, Compression and SamplesPerPixel; how many
+/// extra samples there are, and the value for the first one, or 0; the values of the tags
+/// SampleFormat, BitsPerSample, Predictor and PlanarConfiguration; the number of the chunks' kind;
+/// both values of the tag YCbCrSubSampling; and the numbers of the types of the offsets and of the
+/// byte counts.
 #[derive(Clone, Copy, Debug, PartialEq, Eq)]
 #[repr(C)]
 pub struct PlannedPage {
@@ -435,8 +436,8 @@ pub(crate) fn planned_by<R: Source>(
 /// Reads the chunk with the number `chunk` into `buffer` by the numbers of a plan, under no limits.
 /// The first error: of a number that names nothing, as `plan_from` has it; of sizes that no page
 /// has, `InconsistentSizesEncountered`; of the chunk's offset and byte count; of its color or its
-/// layout; of a buffer shorter than the chunk, `InsufficientOutputBufferSize`; of the chunk. What an
-/// error leaves in `buffer` is not specified.
+/// layout; of a buffer shorter than the chunk, `InsufficientOutputBufferSize`; of the chunk. What
+/// an error leaves in `buffer` is not specified.
 #[tactic(auto, unfolding(crate::specs::Plan::read_planned_chunk))]
 pub fn planned_chunk(
     alloc: Global,
@@ -453,8 +454,8 @@ pub fn planned_chunk(
 
 /// Reads `count` chunks, from the number `first` on, into `buffer`, one behind the other, by the
 /// numbers of a plan and under no limits. The first error: of a number that names nothing, as
-/// `plan_from` has it; `first` plus `count` of 2^32 or more, `InvalidChunkIndex`; and then, chunk by
-/// chunk, of sizes that no page has, `InconsistentSizesEncountered`; of the page's color or its
+/// `plan_from` has it; `first` plus `count` of 2^32 or more, `InvalidChunkIndex`; and then, chunk
+/// by chunk, of sizes that no page has, `InconsistentSizesEncountered`; of the page's color or its
 /// layout; of a buffer that has no room left for the chunk, `InsufficientOutputBufferSize`; of the
 /// chunk's offset and byte count; of the chunk. What an error leaves in `buffer` is not specified.
 #[tactic(auto, unfolding(crate::specs::Plan::read_planned_chunks))]

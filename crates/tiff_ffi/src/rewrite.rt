@@ -34,10 +34,10 @@ fn place_by_plan(reader: &PlanReader<'_>, file: &[u8], chunk: u32) -> TiffResult
     })
 }
 
-/// Where the chunk with the number `chunk` is, by the numbers of a plan. The first error: of a number
-/// that names nothing, as `plan_from` has it; of sizes that no page has,
-/// `InconsistentSizesEncountered`; of the chunk's offset and byte count; of a chunk that isn't there,
-/// `InconsistentSizesEncountered`.
+/// Where the chunk with the number `chunk` is, by the numbers of a plan. The first error: of a
+/// number that names nothing, as `plan_from` has it; of sizes that no page has,
+/// `InconsistentSizesEncountered`; of the chunk's offset and byte count; of a chunk that isn't
+/// there, `InconsistentSizesEncountered`.
 #[tactic(auto, unfolding(crate::specs::Rewrite::chunk_place))]
 pub fn chunk_place(
     alloc: Global,
@@ -77,9 +77,9 @@ fn rewrite_by_plan(
 
 /// Makes the bytes that a file has of the chunk with the number `chunk` from new samples, by the
 /// numbers of a plan. The first error: of a number that names nothing, as `plan_from` has it; of
-/// sizes that no page has, `InconsistentSizesEncountered`; of the chunk's offset and byte count; and
-/// those of `tiff_rewrite::rewrite::rewrite_chunk` under no limits. An error leaves `stored` as it
-/// was.
+/// sizes that no page has, `InconsistentSizesEncountered`; of the chunk's offset and byte count;
+/// and those of `tiff_rewrite::rewrite::rewrite_chunk` under no limits. An error leaves `stored` as
+/// it was.
 #[tactic(auto, unfolding(crate::specs::Rewrite::rewrite_fault))]
 pub fn rewrite_chunk(
     alloc: Global,

@@ -123,8 +123,8 @@ pub fn text_of(number: u32) -> &'static str
     }
 }
 
-/// Puts a text at the front of a buffer, as much of it as fits, and returns how many bytes the whole
-/// text has.
+/// Puts a text at the front of a buffer, as much of it as fits, and returns how many bytes the
+/// whole text has.
 pub fn put_part(text: &str, buffer: &mut [u8]) -> usize
     ensures { PutsText text.now result buffer.old buffer.new }
 {

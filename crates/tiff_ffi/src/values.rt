@@ -149,8 +149,9 @@ fn values_here<T, V: TagValues<T>>(
     answer
 }
 
-// Puts the values of a tag of a page into `out`, as many as fit, and returns how many there are. The
-// first error: of the file or the page; no such tag, `RequiredTagNotFound`; of reading the values.
+// Puts the values of a tag of a page into `out`, as many as fit, and returns how many there are.
+// The first error: of the file or the page; no such tag, `RequiredTagNotFound`; of reading the
+// values.
 fn put_values<T, V: TagValues<T> + Drop>(
     alloc: Global,
     file: &[u8],

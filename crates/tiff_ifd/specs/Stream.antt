@@ -9,8 +9,8 @@ use Rattle.tiff_base.specs.Answers.{AnswersWithoutMemory, NoneSwallowed, ◌>>=�
 use Rattle.tiff_base.specs.Number.{number_at}
 use Rattle.tiff_base.specs.SourceAndSink.{SourceRecord}
 
--- what the source contains, the number of failed reads so far, the byte order, and the offset of the
--- next number
+-- what the source contains, the number of failed reads so far, the byte order, and the offset of
+-- the next number
 pub record Reading : Type 0 where
   pub contents : SourceRecord
   pub failures : ℕ

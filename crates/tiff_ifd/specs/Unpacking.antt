@@ -10,8 +10,8 @@ use Rattle.tiff_ifd.specs.declared.packbits.Block.{Block}
 use Rattle.tiff_ifd.specs.declared.packbits.Block.TheVariants.{Literal, Run}
 use Rattle.tiff_ifd.specs.declared.packbits.PackBitsCursor.{PackBitsCursor}
 
--- what the source contains, the number of failed reads so far, the offset and the number of the packed
--- bytes that are left, and the unpacked bytes that are left
+-- what the source contains, the number of failed reads so far, the offset and the number of the
+-- packed bytes that are left, and the unpacked bytes that are left
 pub record Unpacking : Type 0 where
   pub contents : SourceRecord
   pub failures : ℕ

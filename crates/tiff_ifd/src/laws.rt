@@ -1,5 +1,5 @@
-//! The laws of chains, of accepted links, and of one number of a field. Each law is the contract of a function that does
-//! nothing.
+//! The laws of chains, of accepted links, and of one number of a field. Each law is the contract of
+//! a function that does nothing.
 
 ghost use Rattle.tiff_ifd.specs.Chain.{IsLinkOfDirectory, IsTheChain, IsOneChain, IsLongestChain, IsChainApart};
 ghost use Rattle.tiff_ifd.specs.Links.{IsAnswered, IsOneAnswer};

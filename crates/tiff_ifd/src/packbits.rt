@@ -334,8 +334,8 @@ impl PackBitsCursor {
     }
 }
 
-/// Unpacks PackBits data of a source (TIFF 6.0 section 9) in pieces of any size. Asks the source for
-/// no other bytes than the packed ones that are left. Allocates no memory.
+/// Unpacks PackBits data of a source (TIFF 6.0 section 9) in pieces of any size. Asks the source
+/// for no other bytes than the packed ones that are left. Allocates no memory.
 #[derive(Debug, Drop)]
 pub struct PackBitsReader<R: Source> {
     source: R,

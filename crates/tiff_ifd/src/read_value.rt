@@ -344,9 +344,10 @@ impl FieldReader<'_> {
 
     /// Reads the value of a field. Returns `LimitsExceeded` for 2^64 bytes or more, and for values
     /// outside the entry that are more than the limits allow, before it reads. Returns
-    /// `IoError(UnexpectedEof)` for bytes past the end of the source. Returns `InvalidTag` for a text in the entry that does not
-    /// end there, and for bytes that are no text. Allocates memory only for values within the
-    /// limits and within the source, and for a value in the entry only where it is valid.
+    /// `IoError(UnexpectedEof)` for bytes past the end of the source. Returns `InvalidTag` for a
+    /// text in the entry that does not end there, and for bytes that are no text. Allocates memory
+    /// only for values within the limits and within the source, and for a value in the entry only
+    /// where it is valid.
     #[tactic(auto, using(crate::specs::lemmas::Within::value_unlimited), unfolding(crate::specs::FieldValue::field_value))]
     pub fn read_value<R: Source>(&self, source: &mut R, entry: &Entry) -> TiffResult<Value>
         ensures kept { IsKept R.contents R.failures result source.old source.new }

@@ -18,7 +18,7 @@ use Rattle.tiff_ifd.specs.TagLookup.{ok_or_fault}
 use Rattle.tiff_ifd.specs.lemmas.Chain.{the_chain, apart_chain, same_ok}
 use Rattle.tiff_page.specs.Page.{PageRecord}
 use Rattle.tiff_decode.specs.Machine.{State, Decoding, Outcome, GivesOutcome, stays}
-use Rattle.tiff_decode.specs.Outcome.{decoder_of, chain_from, chain_of, first_directory, first_state, page_in, end_fault, offset_after, next_offset, next_outcome, next_image, enter, entry_outcome, with_page}
+use Rattle.tiff_decode.specs.Outcome.{decoder_of, chain_from, chain_of, first_directory, first_decoder, page_in, end_fault, offset_after, next_offset, next_outcome, next_image, enter, entry_outcome, with_page}
 use Rattle.tiff_decode.specs.DefaultLimits.{default_limits}
 use Rattle.tiff_decode.specs.lemmas.ChainPosition.{next_by, past_end, sought_by}
 use Rattle.tiff_laws.specs.Pages.{SameFile, IsAlong, PageAnswers, Arrives, GoesOn, IsAtFirst, WalkOpens, WalkSeeks, WalkGoesOn, WalkEnds, WalkMoves}
@@ -397,18 +397,6 @@ is_known : {A : Type 0} (o : Option A) (e : TiffError) (a : A) → ok_or_fault o
 is_known None e a h = absurd (cc)
 is_known (Some x) e a h = cc
 
--- the decoder of a file, at its first page
-abbrev first_decoding : List ℕ → ℕ → Header → ℕ → DirectoryRecord → PageRecord → Decoding
-first_decoding file failures header offset directory page = record {
-  bytes = file;
-  readable = None;
-  kind = header.kind;
-  order = header.order;
-  first = header.first;
-  failures = failures;
-  state = first_state header.kind offset directory page;
-}
-
 was_first : (file : List ℕ) (found : Header × ℕ × DirectoryRecord) → first_directory file ≡ Ok found
     → (header_at file ≡ Ok found.0) × (slice_get (chain_from found.0 file).offsets 0 ≡ Some found.1)
     × (directory_at found.0.kind found.0.order file found.1 ≡ Ok found.2)
@@ -436,9 +424,9 @@ opened_at : (file : List ℕ) (failures : ℕ) (header : Header) (offset : ℕ)
     → header_at file ≡ Ok header → slice_get (chain_from header file).offsets 0 ≡ Some offset
     → directory_at header.kind header.order file offset ≡ Ok directory
     → page_in header.kind header.order file default_limits directory ≡ Ok page
-    → IsAtFirst file (first_decoding file failures header offset directory page)
+    → IsAtFirst file (first_decoder file failures header offset directory page)
 opened_at file failures header offset directory page is_header is_offset is_directory is_page =
-    let d = first_decoding file failures header offset directory page in
+    let d = first_decoder file failures header offset directory page in
     let entered : enter d offset ≡ stays d (Ok tt) =
     enter_by d d offset directory (same_here d) is_directory
     ∙ ap (with_page (placed d offset directory) directory) is_page in

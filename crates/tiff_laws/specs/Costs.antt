@@ -35,9 +35,9 @@ WayCosts = (kind : FileKind) (order : ByteOrder) (bytes : List ℕ) (first index
 
 -- ---- pixels
 
--- The most bytes that a read of an image in some planes asks for: of PackBits data the counted bytes
--- of each chunk; else, in each plane, as many stored rows of each chunk side by side as the image
--- has rows.
+-- The most bytes that a read of an image in some planes asks for: of PackBits data the counted
+-- bytes of each chunk; else, in each plane, as many stored rows of each chunk side by side as the
+-- image has rows.
 abbrev pub most_of_image : PageRecord → ℕ → ℕ
 most_of_image p planes =
     if is_packed p.method

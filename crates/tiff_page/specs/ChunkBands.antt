@@ -58,8 +58,8 @@ GrowsByRows file order p color stride from to end old new =
     (total : ℕ) → end ≤ total
     → WritesImageRows file order p color stride from to (filled_to total old) (filled_to total new)
 
--- the first error of the chunks side by side that begin with one, of too few data for the rows below
--- row `to` of each, or for all rows
+-- the first error of the chunks side by side that begin with one, of too few data for the rows
+-- below row `to` of each, or for all rows
 abbrev pub rows_fault : List ℕ → ByteOrder → PageRecord → ColorType → ℕ → ℕ
     → Result (Unit {0}) TiffError
 rows_fault file order p color first to =

@@ -4,6 +4,7 @@ pub mod ChunkAlone
 pub mod ChunkRows
 pub mod Covering
 pub mod Filling
+pub mod ListedChunks
 pub mod NumberBytes
 pub mod OutputRow
 pub mod PassedChecks
@@ -12,3 +13,5 @@ pub mod PositionLaws
 pub mod Rects
 pub mod Requests
 pub mod Rows
+pub mod ShownNumbers
+pub mod WrittenNumbers

@@ -197,8 +197,8 @@ impl ChunkReader<'_> {
             && matches!(page.predictor, Predictor::None)
     }
 
-    /// Reads all rows of the chunk into a sink, which gets zeros where it has too few bytes: many at
-    /// a time if they lie together, else one by one.
+    /// Reads all rows of the chunk into a sink, which gets zeros where it has too few bytes: many
+    /// at a time if they lie together, else one by one.
     pub(crate) fn rows<R: Source, W: RowSink>(
         &self,
         source: &mut R,

@@ -1,5 +1,5 @@
-//! The errors of reading pixels, except for too few data, and those that the decoder finds before it
-//! allocates memory for samples.
+//! The errors of reading pixels, except for too few data, and those that the decoder finds before
+//! it allocates memory for samples.
 
 ghost use Rattle.std.specs.Prelude.{◌≡◌, ◌<◌, length, OnOk, ◌+◌, ◌-◌, ◌*◌, ◌^◌, nat_lt};
 ghost use Rattle.tiff_base.specs.Answers.{Gives, AnswersWithoutMemory, ReadsOnly, IsKept};

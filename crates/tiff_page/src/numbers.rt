@@ -342,8 +342,8 @@ pub(crate) fn ends_at<T: Number<N>, const N: usize>(numbers: &[T], at: usize) ->
 }
 
 // Returns a list, which has room for them, with the numbers of a row of whole numbers after it. The
-// list is passed by value, so that LLVM keeps its address and its length in registers and vectorizes
-// the loop: a list behind a reference is read and written again for each number.
+// list is passed by value, so that LLVM keeps its address and its length in registers and
+// vectorizes the loop: a list behind a reference is read and written again for each number.
 #[tactic(auto, using(crate::specs::lemmas::NumberBytes::pushed_more, crate::specs::lemmas::NumberBytes::numbers_behind))]
 fn push_numbers<T: Number<N>, const N: usize>(numbers: Vec<T>, row: &[u8]) -> Vec<T>
     requires some { 0 < N }

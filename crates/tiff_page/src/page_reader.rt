@@ -116,14 +116,14 @@ struct TileRowPart {
     top: usize,
 }
 
-// Whether the rows of the tiles of a page go to a sink through the scratch buffer. The bytes that are
-// read don't depend on it.
+// Whether the rows of the tiles of a page go to a sink through the scratch buffer. The bytes that
+// are read don't depend on it.
 fn uses_scratch<W: RowSink>(page: &Page) -> bool {
     W::GROWS || stored_row_bytes(page) < SHORT
 }
 
-// Returns how many rows of each of the tiles side by side are read at once, if tiles are, at least 1:
-// as many rows of the image as fit into the scratch buffer, or as many of a tile as a piece has.
+// Returns how many rows of each of the tiles side by side are read at once, if tiles are, at least
+// 1: as many rows of the image as fit into the scratch buffer, or as many of a tile as a piece has.
 fn rows_of_piece<W: RowSink>(page: &Page, row_bytes: usize) -> usize
     requires { 0 < row_bytes }
     ensures { 0 < result }

@@ -215,8 +215,8 @@ impl<'a> RowSink for ByteSlice<'a> {
 // It would take the memory of a longer one again.
 const LONGEST_COPIED: usize = 65536;
 
-/// A list of bytes. Rows for which it has to grow are read into a scratch buffer and appended, which
-/// is faster than to write zeros first; other rows are read straight to their positions.
+/// A list of bytes. Rows for which it has to grow are read into a scratch buffer and appended,
+/// which is faster than to write zeros first; other rows are read straight to their positions.
 #[derive(Drop)]
 pub struct ByteList {
     pub(crate) bytes: Vec<u8>,

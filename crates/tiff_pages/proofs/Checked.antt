@@ -279,14 +279,6 @@ one_checked start old new count check before checks c is same e =
           ∙ take_next (chain_of start).offsets count is.0 there));
     }
 
--- All pages were checked.
-pub all_checked : (start d : Decoding) (count all : ℕ) (checks : List PageCheck)
-    → ChecksAlong start d count checks → all ≡ length (chain_of start).offsets → count ≡ all
-    → checks ≡ map (check_at start) (chain_of start).offsets
-all_checked start d count all checks c h e =
-    c.checked ∙ ap (λ (n : ℕ). map (check_at start) (take n (chain_of start).offsets)) (e ∙ h)
-    ∙ ap (map (check_at start)) (take-length (chain_of start).offsets)
-
 abbrev answered : Pages → Result Pages TiffError
 answered pages = Ok pages
 

@@ -208,9 +208,9 @@ shown_as d new = record d {
   state = record d.state { page = new.state.page; directory = new.state.directory };
 }
 
--- A call shows directories of the file: at most the decoder's page and its directory are others, and
--- the count of failed reads, which a result leaves unchanged. The only errors are out of memory and
--- an error of the device.
+-- A call shows directories of the file: at most the decoder's page and its directory are others,
+-- and the count of failed reads, which a result leaves unchanged. The only errors are out of memory
+-- and an error of the device.
 pub record Shows {X : Type 0} (result : Result X TiffError) (old new : Decoding) : Type 0 where
   pub shows : new ≡ shown_as old new
   pub failures : old.failures ≤ new.failures

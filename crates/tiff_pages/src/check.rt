@@ -91,9 +91,9 @@ fn image_sum<R: Source>(alloc: Global, decoder: &mut Decoder<R>) -> TiffResult<I
     Ok(sum_of(&image))
 }
 
-/// Reads the page of the directory at an offset whole, inside or outside the chain. The check has the
-/// sum of its bytes, in all its planes, or its first error under the decoder's limits. Its only errors
-/// are `OutOfMemory` and an error of the device, `IoError(Device)`.
+/// Reads the page of the directory at an offset whole, inside or outside the chain. The check has
+/// the sum of its bytes, in all its planes, or its first error under the decoder's limits. Its only
+/// errors are `OutOfMemory` and an error of the device, `IoError(Device)`.
 pub fn check_shown<R: Source>(
     alloc: Global,
     decoder: &mut Decoder<R>,

@@ -334,11 +334,11 @@ impl PlanReader<'_> {
         Ok(ChunkPlace { offset, byte_count })
     }
 
-    /// Returns the plan's page with the offset and the byte count of one chunk, which it reads alone;
-    /// those of the other chunks are 0. By the plan of a page, this page tells of the chunk what the
-    /// page does (`plans_make_pages`). For any other plan it returns `InconsistentSizesEncountered` if no page has the
-    /// plan's sizes, else the errors of `FieldReader::read_number` of the chunk's offset, then of its
-    /// byte count.
+    /// Returns the plan's page with the offset and the byte count of one chunk, which it reads
+    /// alone; those of the other chunks are 0. By the plan of a page, this page tells of the chunk
+    /// what the page does (`plans_make_pages`). For any other plan it returns
+    /// `InconsistentSizesEncountered` if no page has the plan's sizes, else the errors of
+    /// `FieldReader::read_number` of the chunk's offset, then of its byte count.
     #[tactic(auto, unfolding(crate::specs::Plan::page_of_chunk))]
     pub fn page_of_chunk<R: Source>(&self, source: &mut R, index: u32) -> TiffResult<Page>
         ensures kept { IsKept R.contents R.failures result source.old source.new }
@@ -395,11 +395,11 @@ impl PlanReader<'_> {
         self.read_chunk_of(source, &page, index, buf)
     }
 
-    /// Fills the first bytes of `buf` with one plane of a chunk, by an offset and a byte count that it
-    /// reads alone, however many chunks the page has. By the plan of a page it returns what
+    /// Fills the first bytes of `buf` with one plane of a chunk, by an offset and a byte count that
+    /// it reads alone, however many chunks the page has. By the plan of a page it returns what
     /// `PageReader::read_chunk_bytes` returns of that page. For any other plan it returns the first
-    /// of these errors: `InconsistentSizesEncountered` if no page has the plan's sizes; the errors of
-    /// `FieldReader::read_number` of the chunk's offset, then of its byte count; those of
+    /// of these errors: `InconsistentSizesEncountered` if no page has the plan's sizes; the errors
+    /// of `FieldReader::read_number` of the chunk's offset, then of its byte count; those of
     /// `PageReader::read_chunk_bytes`.
     pub fn read_chunk_bytes<R: Source>(
         &self,
@@ -448,7 +448,8 @@ pub fn plans_read_pages()
     ensures { spec.PlansReadPages }
 {}
 
-/// By the plan of a page there is a page of each chunk, which tells of the chunk what the page does.
+/// By the plan of a page there is a page of each chunk, which tells of the chunk what the page
+/// does.
 pub fn plans_make_pages()
     ensures { spec.PlansMakePages }
 {}

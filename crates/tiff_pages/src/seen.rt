@@ -56,8 +56,8 @@ pub fn unless_wanted<T: Drop>(
     }
 }
 
-/// Lists the pages of a file, as [`pages`] does, or returns the bytes that it wants of the file. The
-/// only errors of the list are that of the file's header, and `OutOfMemory`.
+/// Lists the pages of a file, as [`pages`] does, or returns the bytes that it wants of the file.
+/// The only errors of the list are that of the file's header, and `OutOfMemory`.
 #[tactic(auto, using(crate::specs::lemmas::SeenFiles::pages_seen, crate::specs::lemmas::SeenFiles::wanted_seen))]
 pub fn pages_seen<F: SeenFile>(
     alloc: Global,
@@ -100,9 +100,9 @@ pub fn directories_seen<F: SeenFile>(
     unless_wanted(listed, decoder.inner().wanted())
 }
 
-/// Reads the page of the directory at an offset of a file whole, as [`check_shown`] does under limits,
-/// or returns the bytes that it wants of the file. The only errors of the check are that of the
-/// file's header, and `OutOfMemory`.
+/// Reads the page of the directory at an offset of a file whole, as [`check_shown`] does under
+/// limits, or returns the bytes that it wants of the file. The only errors of the check are that of
+/// the file's header, and `OutOfMemory`.
 #[tactic(auto, using(crate::specs::lemmas::SeenFiles::check_seen, crate::specs::lemmas::SeenFiles::wanted_seen))]
 pub fn check_seen<F: SeenFile>(
     alloc: Global,

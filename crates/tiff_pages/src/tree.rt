@@ -47,8 +47,8 @@ pub enum Found {
     Directory(DirectoryFacts),
     /// The error by which the directory can't be read.
     DirectoryError(TiffError),
-    /// The error by which the tag's values can't be read as numbers; `LimitsExceeded` if there are more
-    /// than the list takes.
+    /// The error by which the tag's values can't be read as numbers; `LimitsExceeded` if there are
+    /// more than the list takes.
     ValuesError(TiffError),
     /// A directory that the list has elsewhere.
     Met,
@@ -154,8 +154,8 @@ fn values_of<R: Source>(
     file_answer(tags.get_tag_u64_vec(tag))
 }
 
-// The numbers of a tag of a directory, if a list that takes `left` more values takes so many, or the
-// error by which they can't be read.
+// The numbers of a tag of a directory, if a list that takes `left` more values takes so many, or
+// the error by which they can't be read.
 fn values_within<R: Source>(
     decoder: &mut Decoder<R>,
     directory: &Directory,
@@ -436,9 +436,10 @@ fn list_levels<R: Source>(decoder: &mut Decoder<R>, listing: &mut Listing) -> Ti
 /// tag and in the order of the tag's values, each with all below it, and then the next directory of
 /// the chain. A directory is listed once, nearest to the chain and then first in this order; where
 /// it is named elsewhere, the item is `Met`. A directory is `TooDeep` if it would be deeper than
-/// `DEEPEST`. The errors of the file are items: of a directory, of its page, of a tag's values, also
-/// `LimitsExceeded` under the decoder's limits, or where a tag has more values than are left of
-/// `MOST_VALUES` for all tags. The list has the error by which the chain ends, if it ends by one.
+/// `DEEPEST`. The errors of the file are items: of a directory, of its page, of a tag's values,
+/// also `LimitsExceeded` under the decoder's limits, or where a tag has more values than are left
+/// of `MOST_VALUES` for all tags. The list has the error by which the chain ends, if it ends by
+/// one.
 ///
 /// The only errors of the list are `OutOfMemory` and an error of the device, `IoError(Device)`.
 /// After the list, the decoder is in the chain where [`pages`] leaves it, and shows the page of any

@@ -24,7 +24,8 @@ planned_place file plan k = do
   page ← page_of_chunk file plan k
   chunk_place page k
 
--- the error of the plan's chunk k that isn't rewritten, of `len` bytes of samples and of stored bytes
+-- the error of the plan's chunk k that isn't rewritten, of `len` bytes of samples and of stored
+-- bytes
 unfoldable pub planned_fault : List ℕ → PagePlan → Limits → ℕ → ℕ → ℕ
     → Result (Unit {0}) TiffError
 planned_fault file plan limits k len stored = do
@@ -37,8 +38,8 @@ PlannedRewritten file plan k samples old new = (page : PageRecord) (color : Colo
     → page_of_chunk file plan k ≡ Ok page → color_of page ≡ Ok color
     → ChunkRewritten plan.order page color k samples old new
 
--- A chunk rewritten by the plan of a page is rewritten in that page: it is where the page has it, and
--- after its new bytes are put there, a read of the chunk of the page gives the samples.
+-- A chunk rewritten by the plan of a page is rewritten in that page: it is where the page has it,
+-- and after its new bytes are put there, a read of the chunk of the page gives the samples.
 pub record PlansRewritePages : Type 0 where
   pub place : (plan : PagePlan) (file : List ℕ) (opened : Limits) (p : PageRecord) (k : ℕ)
       → length file < 2 ^ 64 → IsPlanOf plan file opened p

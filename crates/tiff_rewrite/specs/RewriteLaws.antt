@@ -36,8 +36,8 @@ pub record IsRewrittenIn (file : List ℕ) (order : ByteOrder) (p : PageRecord) 
   pub rewritten : ChunkRewritten order p color i samples old new
   pub within : slice_index p.offsets i + length new ≤ length file
 
--- After the new bytes of chunk i are put at its offset, the page shows the samples there, and a read
--- of the chunk gives them.
+-- After the new bytes of chunk i are put at its offset, the page shows the samples there, and a
+-- read of the chunk gives them.
 pub record ShowsRewritten : Type 0 where
   pub shown : (file : List ℕ) (order : ByteOrder) (p : PageRecord) (limits : Limits)
       (color : ColorType) (i : ℕ) (samples old new : List ℕ) (r b : ℕ)

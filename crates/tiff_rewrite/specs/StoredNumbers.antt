@@ -19,8 +19,8 @@ stored_by predictor.Horizontal m shown value n =
     if nat_lt n shown then value n else (value n + m - value (n - shown)) % m
 stored_by _ m shown value n = value n
 
--- which number of a stored row, with `stored` numbers a pixel, number n of a row of samples is, with
--- `shown` numbers a pixel
+-- which number of a stored row, with `stored` numbers a pixel, number n of a row of samples is,
+-- with `shown` numbers a pixel
 abbrev pub place_of : ℕ → ℕ → ℕ → ℕ
 place_of shown stored n = n / shown * stored + n % shown
 

@@ -10,8 +10,8 @@ pub fn shows_rewritten()
     ensures { ShowsRewritten }
 {}
 
-/// Where bytes are put into a file of data that aren't packed, each chunk of which what is read lies
-/// apart from them is as it was.
+/// Where bytes are put into a file of data that aren't packed, each chunk of which what is read
+/// lies apart from them is as it was.
 pub fn keeps_apart()
     ensures { KeepsApart }
 {}

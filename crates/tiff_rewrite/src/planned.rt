@@ -31,8 +31,8 @@ pub fn chunk_place(page: &Page, index: u32) -> TiffResult<ChunkPlace>
     })
 }
 
-/// Returns the offset and the byte count of a chunk of a plan, which it reads alone. The first error:
-/// those of `PlanReader::page_of_chunk`, then that of `chunk_place`.
+/// Returns the offset and the byte count of a chunk of a plan, which it reads alone. The first
+/// error: those of `PlanReader::page_of_chunk`, then that of `chunk_place`.
 #[tactic(auto, unfolding(crate::specs::PlannedRewrite::planned_place))]
 pub fn planned_place<R: Source>(
     reader: &PlanReader<'_>,
@@ -49,10 +49,10 @@ pub fn planned_place<R: Source>(
     chunk_place(&page, index)
 }
 
-/// Makes the bytes that a file has of a chunk of a plan from new samples, as `rewrite_chunk` does of
-/// a page. It reads the chunk's own offset and byte count, and writes nothing to the source. The
-/// first error: those of `PlanReader::page_of_chunk`, then those of `rewrite_chunk`. An error leaves
-/// `stored` as it is.
+/// Makes the bytes that a file has of a chunk of a plan from new samples, as `rewrite_chunk` does
+/// of a page. It reads the chunk's own offset and byte count, and writes nothing to the source. The
+/// first error: those of `PlanReader::page_of_chunk`, then those of `rewrite_chunk`. An error
+/// leaves `stored` as it is.
 #[tactic(auto, unfolding(crate::specs::PlannedRewrite::planned_fault))]
 pub fn rewrite_planned<R: Source>(
     reader: &PlanReader<'_>,

@@ -188,19 +188,19 @@ impl ChunkForm<'_> {
     }
 }
 
-/// Makes the bytes that a file has of a chunk from new samples: those that `read_chunk_bytes` of the
-/// reader returns, rows of the chunk's own width in the image, of little-endian numbers. `stored`
-/// has the bytes of the file from the chunk's offset on, at least as many as its rows need; bytes
-/// that no sample needs stay as they are, as those of a tile outside the image, and of samples that
-/// aren't output. Written at the offset, they show the new samples. Allocates nothing but the list of
-/// an error.
+/// Makes the bytes that a file has of a chunk from new samples: those that `read_chunk_bytes` of
+/// the reader returns, rows of the chunk's own width in the image, of little-endian numbers.
+/// `stored` has the bytes of the file from the chunk's offset on, at least as many as its rows
+/// need; bytes that no sample needs stay as they are, as those of a tile outside the image, and of
+/// samples that aren't output. Written at the offset, they show the new samples. Allocates nothing
+/// but the list of an error.
 ///
 /// Returns the first of these errors, and leaves `stored` as it is: those of the layout, as
 /// `read_chunk_bytes` does; `IoError(InvalidData)` if the samples aren't as many bytes as the chunk
 /// has; the errors of `form_fault`, as `read_chunk_bytes` does; `UnsupportedCompressionMethod` if
-/// the data are packed; `FloatingPointPredictor` for byte planes; `LimitsExceeded` if the rows of the
-/// chunk need 2^64 stored bytes or more; `InsufficientOutputBufferSize` if `stored` has fewer bytes
-/// than they need.
+/// the data are packed; `FloatingPointPredictor` for byte planes; `LimitsExceeded` if the rows of
+/// the chunk need 2^64 stored bytes or more; `InsufficientOutputBufferSize` if `stored` has fewer
+/// bytes than they need.
 #[tactic(auto, unfolding(crate::specs::Rewrite::rewrite_fault))]
 pub fn rewrite_chunk(
     reader: &PageReader<'_>,

@@ -27,7 +27,7 @@ use Rattle.tiff_decode.specs.Machine.{Decoding, Follows, GivesOutcome}
 use Rattle.tiff_decode.specs.Result.{decoded_as}
 use Rattle.tiff_decode.specs.Outcome.{chain_of, decoder_of, page_in, read_image, seek_to_image, set_limits}
 use Rattle.tiff_laws.specs.Pages.{SameFile, WalkOpens, WalkSeeks}
-use Rattle.tiff_encode.specs.Model.{Model, header_link}
+use Rattle.tiff_value.specs.Model.{Model, header_link}
 use Rattle.tiff_encode.specs.Machine.{FileState, OpenImage}
 use Rattle.tiff_encode.specs.Chunks.{all_samples}
 use Rattle.tiff_encode.specs.Shows.{Shows}

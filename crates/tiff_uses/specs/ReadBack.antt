@@ -46,8 +46,8 @@ pub record ComesBack (inner : «Type») (columns rows samples_of_column : ℕ) (
   pub type : sample_type_from (format_of_type inner) (8 * type_size inner) ≡ Ok image.sample_type
   pub numbers : length samples ≡ rows * columns * samples_of_column → image.numbers ≡ samples
 
--- The image can't be written, for the first error of `write_image`; or the file is written, and this
--- is what a reader without limits returns of its first page. Or memory is out.
+-- The image can't be written, for the first error of `write_image`; or the file is written, and
+-- this is what a reader without limits returns of its first page. Or memory is out.
 abbrev pub AnswersBack : ColorTypeRecord → ℕ → ℕ → ℕ → List ℕ → Result Decoded TiffError → Type 0
 AnswersBack color size width height samples answer =
     (answer ≡ Err OutOfMemory)

@@ -182,8 +182,8 @@ fn first_without_limits(alloc: Global, file: Vec<u8>) -> TiffResult<DecodingResu
 }
 
 /// Writes an image of a color type into a file in memory, and reads it back without limits; or
-/// returns the first error: of `write_image`, or of the reader. If the caller passes as many samples
-/// as the image has, the same samples come back, in their order and of their type.
+/// returns the first error: of `write_image`, or of the reader. If the caller passes as many
+/// samples as the image has, the same samples come back, in their order and of their type.
 #[tactic(auto, using(tiff_base::specs::lemmas::MemoryFaults::header_refused))]
 pub fn written_and_read<C: NamedColorType>(
     alloc: Global,
@@ -209,9 +209,9 @@ pub fn written_and_read<C: NamedColorType>(
     first_without_limits(alloc, bytes)
 }
 
-/// Seeks to a page and reads its image, by a list of two calls. Appends the replies, each made where
-/// the call before it left the decoder, also where one is an error. `page` counts from 0. The only
-/// error is `OutOfMemory` for the replies: then no call is made.
+/// Seeks to a page and reads its image, by a list of two calls. Appends the replies, each made
+/// where the call before it left the decoder, also where one is an error. `page` counts from 0. The
+/// only error is `OutOfMemory` for the replies: then no call is made.
 pub fn page_by_calls<R: Source>(
     decoder: &mut Decoder<R>,
     page: usize,
@@ -226,9 +226,9 @@ pub fn page_by_calls<R: Source>(
     run_calls(decoder, &calls, replies)
 }
 
-/// The classic file that jobs write, run one after another. Appends the reply to each, also to a job
-/// that is refused. The only error is `OutOfMemory`, for the replies or the header: then no reply is
-/// appended.
+/// The classic file that jobs write, run one after another. Appends the reply to each, also to a
+/// job that is refused. The only error is `OutOfMemory`, for the replies or the header: then no
+/// reply is appended.
 #[tactic(auto, using(tiff_base::specs::lemmas::MemoryFaults::header_refused))]
 pub fn file_by_jobs(
     alloc: Global,

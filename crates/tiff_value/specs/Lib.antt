@@ -14,4 +14,9 @@ pub mod Compressors
 pub mod Lends
 pub mod ColorLaws
 pub mod Lanes
+pub mod FileBytes
+pub mod Model
+pub mod WriteOps
+pub mod FileLaws
+pub mod Fields
 pub mod lemmas

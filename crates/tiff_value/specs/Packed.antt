@@ -51,8 +51,8 @@ pub record IsPacked (bytes list : List ℕ) : Type 0 where
   pub bound : length list ≤ packed_bound (length bytes)
 
 -- Whole rows of `row` bytes each, packed one by one: "Pack each row separately. Do not compress
--- across row boundaries." The bytes are the rows, one after another, and the list is the packed list
--- of each row, one after another.
+-- across row boundaries." The bytes are the rows, one after another, and the list is the packed
+-- list of each row, one after another.
 pub record ArePackedRows (row : ℕ) (bytes list : List ℕ) : Type 0 where
   pub rows : List (List ℕ)
   pub lists : List (List ℕ)

@@ -3,6 +3,7 @@ pub mod Bytes
 pub mod ColorTypes
 pub mod Data
 pub mod Differences
+pub mod File
 pub mod PackedRows
 pub mod Packing
 pub mod Put

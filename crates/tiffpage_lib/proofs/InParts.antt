@@ -153,31 +153,11 @@ pub tree_refused : (file : List ℕ) (e : TiffError)
     → AnswersWithoutSource (λ (lines : Lines). (lines.well, lines.end)) (Err e) (told_of_directories file)
 tree_refused = no_tree
 
-pub tree_told : (file : List ℕ) (listed : DirectoryList) (lines : Lines)
-    → (lines.well ≡ true) × (lines.end ≡ listed.end)
-    → AnswersWithoutSource directories_in (Ok listed) (tree_of file)
-    → AnswersWithoutSource (λ (l : Lines). (l.well, l.end)) (Ok lines) (told_of_directories file)
-tree_told file listed lines h t =
-    ap (λ r. r >>= λ x. Ok (true, x.end)) t ∙ (λ i. Ok (sym h.0 i, sym h.1 i))
-
 pub checks_refused : (limits : Limits) (file : List ℕ) (e : TiffError)
     → AnswersWithoutSource checks_in (Err e) (checks_under limits file)
     → AnswersWithoutSource (λ (lines : Lines). (lines.well, lines.end)) (Err e) (told_under limits file)
 checks_refused limits file e h =
     cause_along e (λ w. w) (λ f. f) (ap (λ r. r >>= λ c. Ok (are_well c.items, c.end))) h
-
-pub checks_told : (limits : Limits) (file : List ℕ) (checked : FileCheck) (lines : Lines)
-    → (lines.well ≡ are_well checked.pages.items) × (lines.end ≡ checked.end)
-    → AnswersWithoutSource checks_in (Ok checked) (checks_under limits file)
-    → AnswersWithoutSource (λ (l : Lines). (l.well, l.end)) (Ok lines) (told_under limits file)
-checks_told limits file checked lines h t =
-    ap (λ r. r >>= λ c. Ok (are_well c.items, c.end)) t ∙ (λ i. Ok (sym h.0 i, sym h.1 i))
-
--- memory is out
-pub out_told : {X Y : Type 0} (view : X → Y) (given : Result Y TiffError) (e : TiffError)
-    → e ≡ OutOfMemory → AnswersWithoutSource view (Err e) given
-out_told view given e h =
-    (let P : TiffError → Type 0 = λ x. AnswersWithoutSource view (Err x) given in subst P (sym h) memory_out)
 
 -- ---- checks, page by page
 

@@ -142,15 +142,3 @@ append_alone words (command.Append f) h = h.1
 append_alone words command.Help h =
     elim h.0 [ inl e ↦ absurd (omega (arith, ap key e)) | inr e ↦ absurd (omega (arith, ap key e)) ]
 append_alone words c h = absurd (omega (arith, ap key h.0))
-
-pub help_alone : (name : List ℕ) (words : List (List ℕ)) → IsHelp name → (c : Command)
-    → IsAsked name words c → words ≡ []
-help_alone name words n command.Help h = h.1
-help_alone name words (inl e) c h = absurd (omega (arith, ap key (sym e ∙ h.0)))
-help_alone name words (inr e) c h = absurd (omega (arith, ap key (sym e ∙ h.0)))
-
-pub version_alone : (words : List (List ℕ)) (c : Command) → IsAsked (codes "--version") words c → words ≡ []
-version_alone words command.Version h = h.1
-version_alone words command.Help h =
-    elim h.0 [ inl e ↦ absurd (omega (arith, ap key e)) | inr e ↦ absurd (omega (arith, ap key e)) ]
-version_alone words c h = absurd (omega (arith, ap key h.0))

@@ -51,8 +51,8 @@ in_parts (Some len) = if nat_lt most_whole len then Some len else None
 
 -- files are those of a type F
 module _ {F : Type 0} where
-  -- A look at the length of a file, whether it is read by parts; `measures` says what length it may be
-  -- told to have, with the files before and behind it.
+  -- A look at the length of a file, whether it is read by parts; `measures` says what length it may
+  -- be told to have, with the files before and behind it.
   abbrev pub Measures : (F → List ℕ → Result (Option ℕ) TiffError → F → Type 0) → Bor (List ℕ) → F
       → Result (Option ℕ) Failure → F → Type 0
   Measures measures name old result new = (answer : Result (Option ℕ) TiffError)

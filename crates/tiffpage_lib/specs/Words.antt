@@ -107,8 +107,8 @@ abbrev pub IsCalls : List (List ℕ) → Command → Type 0
 IsCalls words (command.Calls input) = words ≡ input.now ∷ []
 IsCalls words _ = ⊥
 
--- This command is the `append` that these words ask for: the one word is the name of the file, which
--- is no stream.
+-- This command is the `append` that these words ask for: the one word is the name of the file,
+-- which is no stream.
 abbrev pub IsAppend : List (List ℕ) → Command → Type 0
 IsAppend words (command.Append file) = (words ≡ file.now ∷ []) × (file.now ≢ codes "-")
 IsAppend words _ = ⊥

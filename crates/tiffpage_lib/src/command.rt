@@ -62,8 +62,8 @@ pub enum Command<'a> {
         kind: FileKind,
         keep_going: bool,
     },
-    /// To run the jobs that standard input lists behind a file, print the replies, and add what they
-    /// write to the file, if none of the replies is an error.
+    /// To run the jobs that standard input lists behind a file, print the replies, and add what
+    /// they write to the file, if none of the replies is an error.
     Append {
         file: &'a str,
     },

@@ -21,8 +21,8 @@ pub trait Files {
     /// What a write of bytes by a name may return.
     ghost writes: { Self → List ℕ → List ℕ → Result (Unit {0}) TiffError → Self → Type 0 } = { λ _ _ _ _ _. Unit {0} };
 
-    /// What an append by a name may return: of its bytes, and of those that overwrite others from an
-    /// offset on.
+    /// What an append by a name may return: of its bytes, and of those that overwrite others from
+    /// an offset on.
     ghost appends: { Self → List ℕ → List ℕ → ℕ → List ℕ → Result (Unit {0}) TiffError → Self → Type 0 } = { λ _ _ _ _ _ _ _. Unit {0} };
 
     /// Whether two names may be told to be those of one file.
@@ -38,8 +38,8 @@ pub trait Files {
     fn len(&mut self, name: &str) -> TiffResult<Option<u64>>
         ensures { measures self.old name.now result self.new };
 
-    /// `len` bytes of a file, from the offset `at` on. If the file has fewer there, that is an error of
-    /// the file.
+    /// `len` bytes of a file, from the offset `at` on. If the file has fewer there, that is an
+    /// error of the file.
     fn read_at(&mut self, name: &str, at: u64, len: u64) -> TiffResult<Vec<u8>>
         ensures gives { reads_part self.old name.now at len
             (result_map_both (λ bytes. bytes.items) (λ e. e) result) self.new }
@@ -49,13 +49,13 @@ pub trait Files {
     fn write(&mut self, name: &str, bytes: &[u8]) -> TiffResult<()>
         ensures { writes self.old name.now bytes.now result self.new };
 
-    /// Appends bytes to a file, and then overwrites its bytes from an offset on. Between the two the
-    /// file has all bytes that it had.
+    /// Appends bytes to a file, and then overwrites its bytes from an offset on. Between the two
+    /// the file has all bytes that it had.
     fn append(&mut self, name: &str, more: &[u8], at: usize, over: &[u8]) -> TiffResult<()>
         ensures { appends self.old name.now more.now at over.now result self.new };
 
-    /// Whether two names are those of one file, so that writing one replaces the other. The name `-`
-    /// is that of no file. The only error is `OutOfMemory`.
+    /// Whether two names are those of one file, so that writing one replaces the other. The name
+    /// `-` is that of no file. The only error is `OutOfMemory`.
     fn are_same(&mut self, one: &str, other: &str) -> TiffResult<bool>
         ensures compared { compares self.old one.now other.now result self.new }
         ensures stream { IfOk result (λ same.

@@ -116,8 +116,8 @@ pub(crate) fn directories_in_parts<'a, S: SeenFile, F: Files>(
     Ok(lines_of_directories(alloc, listed)?)
 }
 
-// The pages of a file of `len` bytes, each read whole under limits. Parts are read for each page anew,
-// so the memory is that of one page.
+// The pages of a file of `len` bytes, each read whole under limits. Parts are read for each page
+// anew, so the memory is that of one page.
 fn checks_in_parts<'a, S: SeenFile, F: Files>(
     alloc: Global,
     name: &'a str,
@@ -146,8 +146,8 @@ fn checks_in_parts<'a, S: SeenFile, F: Files>(
     Ok(FileCheck { pages: checks, end })
 }
 
-/// The pages of a file of `len` bytes, each read whole under limits, one line for each, as `file_check`
-/// returns them.
+/// The pages of a file of `len` bytes, each read whole under limits, one line for each, as
+/// `file_check` returns them.
 pub(crate) fn check_in_parts<'a, S: SeenFile, F: Files>(
     alloc: Global,
     name: &'a str,

@@ -2,7 +2,7 @@
 
 ghost use Rattle.std.specs.Prelude.{◌≡◌, ◌+◌, ◌≤◌, length, None, MatchResult, is_ok, option_map};
 ghost use Rattle.std.specs.List.{list_all};
-ghost use Rattle.tiff_encode.specs.FileBytes.{offset_len};
+ghost use Rattle.tiff_value.specs.FileBytes.{offset_len};
 ghost use Rattle.tiffpage_lib.specs.Wrote.{Wrote, WroteBehind, is_well};
 
 use crate::calls::drop_value;

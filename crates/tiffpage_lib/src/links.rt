@@ -26,8 +26,8 @@ fn read_next<R: Source>(source: &mut R, at: u64) -> TiffResult<Option<u64>>
     read_link_of(source, at, header.kind, header.order)
 }
 
-// Follows the links from a directory on, or from the header, which has the offset 0, as far as a source
-// has them. `at` is then the offset of the last directory.
+// Follows the links from a directory on, or from the header, which has the offset 0, as far as a
+// source has them. `at` is then the offset of the last directory.
 fn follow<R: Source>(source: &mut R, at: &mut u64)
     ensures { R.contents source.new ≡ R.contents source.old }
 {

@@ -27,8 +27,8 @@ pub fn list_from_first(alloc: Global, file: Vec<u8>) -> TiffResult<PageList>
     pages(&mut decoder)
 }
 
-/// Lists the pages of a file, and returns a line for each; or returns the error of the file's header,
-/// or of its first page.
+/// Lists the pages of a file, and returns a line for each; or returns the error of the file's
+/// header, or of its first page.
 pub fn file_list(alloc: Global, file: Vec<u8>) -> TiffResult<Lines>
     ensures { AnswersBut (Unit {0}) (Unit {0}) (λ lines. (lines.well, lines.end)) result
         (told_of_list file.items) }

@@ -77,8 +77,8 @@ fn windows_of<'a>(alloc: Global, parts: &'a [Part]) -> Result<Vec<Window<'a>>, A
     Ok(windows)
 }
 
-// The answer to a question about a file of which these are windows, or the bytes that are wanted for
-// it. `at` is the offset of the directory up to which links were followed.
+// The answer to a question about a file of which these are windows, or the bytes that are wanted
+// for it. `at` is the offset of the directory up to which links were followed.
 fn ask_seen<Q: Question, S: SeenFile>(
     alloc: Global,
     question: &Q,
@@ -133,8 +133,8 @@ const LEAST: u64 = 4_096;
 // as long as the last, a page in one piece takes some fifteen reads.
 const MOST: u64 = 67_108_864;
 
-// The parts of a file that were read, in order; and of the one that was read last, the offset behind
-// it, and its number of bytes.
+// The parts of a file that were read, in order; and of the one that was read last, the offset
+// behind it, and its number of bytes.
 #[derive(Drop)]
 struct Parts {
     len: u64,
@@ -175,8 +175,8 @@ impl Parts {
         }
     }
 
-    // How many bytes are read at an offset where fewer are wanted: twice as many as last time, if it
-    // goes on there, and the fewest if not.
+    // How many bytes are read at an offset where fewer are wanted: twice as many as last time, if
+    // it goes on there, and the fewest if not.
     fn step_at(&self, at: u64) -> u64 {
         if at >= self.end && at - self.end <= LEAST {
             self.last.saturating_mul(2).max(LEAST).min(MOST)
@@ -238,8 +238,8 @@ impl Parts {
     }
 }
 
-/// The answer to a question about a file of `len` bytes, of which parts are read until the answer is
-/// known.
+/// The answer to a question about a file of `len` bytes, of which parts are read until the answer
+/// is known.
 pub(crate) fn answer_by_parts<'a, Q: Question, S: SeenFile, F: Files>(
     alloc: Global,
     question: &Q,

@@ -201,8 +201,8 @@ fn job_replies<'a, F: Files>(
     write_kept(output, written, files)
 }
 
-// Adds what jobs wrote behind a file to the file: first the bytes behind it, and then its last link,
-// at an offset.
+// Adds what jobs wrote behind a file to the file: first the bytes behind it, and then its last
+// link, at an offset.
 fn append<'a, F: Files>(
     name: &'a str,
     addition: &Addition,
@@ -236,8 +236,8 @@ fn add<'a, F: Files>(
     }
 }
 
-// Runs the jobs that standard input lists behind a file, adds what they wrote to it, if none of them
-// is refused, and returns a line for each reply.
+// Runs the jobs that standard input lists behind a file, adds what they wrote to it, if none of
+// them is refused, and returns a line for each reply.
 fn append_jobs<'a, F: Files>(
     alloc: Global,
     name: &'a str,
@@ -629,24 +629,24 @@ fn print_outcome<O: Write, E: Write>(
 /// Does what the words of a command line ask for, and returns the status.
 ///
 /// 0: all is done. 1: an error, with a line `error: ..` on `err`, also of a write to `out` that
-/// fails; or a write to `err` that fails, a page with an error in a check, or a job or a step of one
-/// that is refused. 2: a wrong command line, with the usage line on `err`; or a line of standard
-/// input that is not UTF-8, no call or no job, with a line `error: ..` on `err` that has the number
-/// of that line, before any call is made; or a list of jobs without an image or a directory, unless
-/// the words have `--keep-going`. Without words, the usage line is printed on `out`.
+/// fails; or a write to `err` that fails, a page with an error in a check, or a job or a step of
+/// one that is refused. 2: a wrong command line, with the usage line on `err`; or a line of
+/// standard input that is not UTF-8, no call or no job, with a line `error: ..` on `err` that has
+/// the number of that line, before any call is made; or a list of jobs without an image or a
+/// directory, unless the words have `--keep-going`. Without words, the usage line is printed on
+/// `out`.
 ///
 /// Errors are found in this order: of the command line; of reading the input; of a picture that
 /// would replace it; of reading standard input; of its lines; of the decoder or the encoder; of
-/// writing the output. After an error nothing is printed on `out`, with two exceptions. If the chain
-/// of a file whose pages or directories are listed, or whose pages are checked, ends by an error,
-/// the lines of these are printed.
-/// The replies to all jobs are printed, also if a job is refused; the file of the jobs is made if
-/// none is refused, or if the words have `--keep-going`. If that file is `-`, standard output, the
-/// replies are printed on `err`.
+/// writing the output. After an error nothing is printed on `out`, with two exceptions. If the
+/// chain of a file whose pages or directories are listed, or whose pages are checked, ends by an
+/// error, the lines of these are printed. The replies to all jobs are printed, also if a job is
+/// refused; the file of the jobs is made if none is refused, or if the words have `--keep-going`.
+/// If that file is `-`, standard output, the replies are printed on `err`.
 ///
-/// The directories and the check of a file of more than 64 MiB are told by parts of it, of which as few
-/// are read as are needed; so are they of any file that these are parts of. Only the contract sees
-/// that file, `S`: any will do.
+/// The directories and the check of a file of more than 64 MiB are told by parts of it, of which as
+/// few are read as are needed; so are they of any file that these are parts of. Only the contract
+/// sees that file, `S`: any will do.
 pub fn run<F: Files, O: Write, E: Write, S: SeenFile>(
     alloc: Global,
     words: &[String],

@@ -4,7 +4,7 @@ use Rattle.std.proofs.Common.{ap}
 use Rattle.std.specs.FinMap.{len, entries}
 use Rattle.tiff_base.specs.declared.tags.FileKind.TheVariants.{Classic, Big}
 use Rattle.tiff_base.specs.Field.{Field}
-use Rattle.tiff_encode.specs.WriteOps.{Listed, bytes_after}
+use Rattle.tiff_value.specs.WriteOps.{Listed, bytes_after}
 use Rattle.tiff_encode.specs.Machine.{FileState, OpenDirectory, WriteOutcome, by_cause}
 use Rattle.tiff_encode.specs.Causes.{end_of}
 use Rattle.tiff_encode.specs.Calls.{Offsets, chain_after, finish, links_to, offsets_of, new_directory}

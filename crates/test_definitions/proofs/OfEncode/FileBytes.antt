@@ -7,7 +7,7 @@ use Rattle.tiff_base.specs.declared.tags.FileKind.{FileKind}
 use Rattle.tiff_base.specs.declared.tags.FileKind.TheVariants.{Classic, Big}
 use Rattle.tiff_base.specs.Field.{Field}
 use Rattle.tiff_base.specs.Number.{le}
-use Rattle.tiff_encode.specs.FileBytes.{count_len, offset_len, entry_bytes, directory_bytes}
+use Rattle.tiff_value.specs.FileBytes.{count_len, offset_len, entry_bytes, directory_bytes}
 use Rattle.test_definitions.specs.OneValue.{short_field, long_field}
 use Rattle.test_definitions.proofs.Maps.{puts, entries_puts, len_puts}
 use Rattle.test_definitions.specs.Encode.FileBytes as s

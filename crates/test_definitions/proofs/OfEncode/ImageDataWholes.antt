@@ -3,7 +3,7 @@ use Rattle.std.specs.Prelude.{refl, zero, suc}
 use Rattle.std.proofs.Common.{◌≡◌, ℕ, ◌<◌, ◌^◌, List, [], ◌∷◌, length, Some, Ok, ap, sym, ◌∙◌, subst, inl, inr, lit<}
 use Rattle.tiff_base.specs.declared.tags.FileKind.TheVariants.{Classic}
 use Rattle.tiff_base.specs.Field.{AreEntries}
-use Rattle.tiff_encode.specs.Model.{IsLink, header_model}
+use Rattle.tiff_value.specs.Model.{IsLink, header_model}
 use Rattle.tiff_encode.specs.Machine.{FileState}
 use Rattle.tiff_encode.specs.Chunks.{parts_left}
 use Rattle.tiff_encode.specs.Calls.{Offsets, finish_image, new_image}
@@ -13,10 +13,10 @@ use Rattle.tiff_encode.specs.ImageData.{AreNumbers, IsShortFile, WritesImageData
 use Rattle.tiff_encode.proofs.Data.Image.{image_leaves_by}
 use Rattle.tiff_encode.proofs.Data.Shows.{data_leaves}
 use Rattle.tiff_encode.proofs.Shown.Gray as proved
-use Rattle.tiff_encode.specs.lemmas.Header as its_header
+use Rattle.tiff_value.specs.lemmas.File.Header as its_header
 use Rattle.tiff_encode.proofs.Image.Fits.{new_image_fits}
 use Rattle.tiff_encode.specs.lemmas.Shown.Parts.{parts_show}
-use Rattle.tiff_encode.specs.lemmas.Slices.{ok_inj}
+use Rattle.tiff_base.specs.lemmas.Slices.{ok_inj}
 use Rattle.test_definitions.specs.Encode.Causes.{new_file, gray}
 use Rattle.test_definitions.specs.Files.{gray_file}
 use Rattle.test_definitions.specs.Encode.Chunks.{new_pixel, pixel_in_file, page_file}

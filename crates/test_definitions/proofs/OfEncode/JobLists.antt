@@ -18,17 +18,17 @@ use Rattle.tiff_encode.specs.declared.encoder.script.StepReply.{StepReply}
 use Rattle.tiff_encode.specs.declared.encoder.script.EndReply.{EndReply}
 use Rattle.tiff_encode.specs.declared.encoder.script.EndReply.TheVariants as last
 use Rattle.tiff_encode.specs.declared.encoder.script.JobReply.{JobReply}
-use Rattle.tiff_encode.specs.FileBytes.{directory_bytes}
-use Rattle.tiff_encode.specs.Model.{FileContains, Grows}
-use Rattle.tiff_encode.specs.Laws.{AreListable}
-use Rattle.tiff_encode.specs.WriteOps.{Appended, Supplied, Listed, model_after}
+use Rattle.tiff_value.specs.FileBytes.{directory_bytes}
+use Rattle.tiff_value.specs.Model.{FileContains, Grows}
+use Rattle.tiff_value.specs.FileLaws.{AreListable}
+use Rattle.tiff_value.specs.WriteOps.{Appended, Supplied, Listed, model_after}
 use Rattle.tiff_encode.specs.Shows.{Image, Shows}
 use Rattle.tiff_encode.specs.Machine.{FileState, OpenDirectory}
 use Rattle.tiff_encode.specs.Calls.{Offsets, extra_directory, finish, new_directory}
 use Rattle.tiff_encode.specs.Encoder.{HeaderFails}
 use Rattle.tiff_encode.specs.Jobs as jobs
 use Rattle.tiff_encode.specs.Jobs.{FileAndModel, Run, FinishedImage, IsDone}
-use Rattle.tiff_encode.proofs.WriteOps.{ops_stand, ops_grow}
+use Rattle.tiff_value.specs.lemmas.File.WriteOps.{ops_stand, ops_grow}
 use Rattle.test_definitions.specs.Encode.Calls.{header}
 use Rattle.test_definitions.specs.Files.{gray_file}
 use Rattle.test_definitions.specs.Encode.JobLists as s

@@ -10,7 +10,7 @@ use Rattle.tiff_base.specs.declared.io.SinkFault.TheVariants as fault
 use Rattle.tiff_base.specs.declared.tags.FileKind.TheVariants.{Classic}
 use Rattle.tiff_encode.specs.declared.encoder.script.StepReply.{StepReply}
 use Rattle.tiff_base.specs.Field.{Field}
-use Rattle.tiff_encode.specs.WriteOps.{Appended, Listed, model_after}
+use Rattle.tiff_value.specs.WriteOps.{Appended, Listed, model_after}
 use Rattle.tiff_encode.specs.Machine.{FileState, WriteOutcome}
 use Rattle.tiff_encode.specs.Calls.{Offsets, new_directory, image_directory, finish, extend_from}
 use Rattle.tiff_encode.specs.Jobs as jobs
@@ -23,7 +23,7 @@ use Rattle.tiff_encode.specs.declared.encoder.script.DirectoryEnd.{DirectoryEnd}
 use Rattle.tiff_encode.specs.declared.encoder.script.DirectoryEnd.TheVariants as end
 use Rattle.tiff_encode.specs.declared.encoder.script.EndReply.{EndReply}
 use Rattle.tiff_encode.specs.declared.encoder.script.EndReply.TheVariants as last
-use Rattle.tiff_encode.specs.Model.{header_model, with_link, with_directory, with_region}
+use Rattle.tiff_value.specs.Model.{header_model, with_link, with_directory, with_region}
 use Rattle.test_definitions.proofs.OfEncode.Model.{unequal, stood_of}
 use Rattle.test_definitions.specs.Encode.Jobs as s
 use Rattle.test_definitions.specs.Encode.Jobs.{first}

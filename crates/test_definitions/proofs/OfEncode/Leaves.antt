@@ -2,14 +2,14 @@
 use Rattle.std.specs.Prelude.{refl}
 use Rattle.std.proofs.Common.{◌≡◌, ℕ, List, [], ◌∷◌, ◌++◌, subst, ap, sym, inl, inr, lit<}
 use Rattle.std.specs.Prelude.{get_or}
-use Rattle.tiff_encode.specs.lemmas.Slices.{ok_inj}
+use Rattle.tiff_base.specs.lemmas.Slices.{ok_inj}
 use Rattle.test_definitions.proofs.OfEncode.Model.{unequal}
 use Rattle.tiff_base.specs.declared.io.SinkFault.TheVariants as fault
 use Rattle.tiff_base.specs.declared.tags.FileKind.TheVariants.{Classic}
-use Rattle.tiff_encode.specs.Model.{Model, FileContains, header_model, with_link}
-use Rattle.tiff_encode.specs.WriteOps.{WriteOp, Appended, Linked, model_after}
-use Rattle.tiff_encode.specs.lemmas.Header as its_header
-use Rattle.tiff_encode.proofs.WriteOps.{ops_stand}
+use Rattle.tiff_value.specs.Model.{Model, FileContains, header_model, with_link}
+use Rattle.tiff_value.specs.WriteOps.{WriteOp, Appended, Linked, model_after}
+use Rattle.tiff_value.specs.lemmas.File.Header as its_header
+use Rattle.tiff_value.specs.lemmas.File.WriteOps.{ops_stand}
 use Rattle.test_definitions.specs.Encode.Calls.{header}
 use Rattle.test_definitions.specs.Encode.Leaves as s
 use Rattle.tiff.proofs.OnLiterals.{tiff_on_literals}

@@ -14,15 +14,15 @@ use Rattle.tiff_base.specs.Number.{le}
 use Rattle.tiff_base.specs.Header.{Header, header_at}
 use Rattle.tiff_base.specs.Directory.{link_offset, link, directory_at}
 use Rattle.tiff_page.specs.Page.{PageRecord}
-use Rattle.tiff_encode.specs.FileBytes.{entry_bytes}
-use Rattle.tiff_encode.specs.Model.{In, FinishedDirectory, Model, own_link, whole_len, FileContains, header_model, with_link, with_directory}
-use Rattle.tiff_encode.specs.WriteOps.{Listed, standing_fields, model_after}
-use Rattle.tiff_encode.specs.Laws.{IsListable, AreListable}
+use Rattle.tiff_value.specs.FileBytes.{entry_bytes}
+use Rattle.tiff_value.specs.Model.{In, FinishedDirectory, Model, own_link, whole_len, FileContains, header_model, with_link, with_directory}
+use Rattle.tiff_value.specs.WriteOps.{Listed, standing_fields, model_after}
+use Rattle.tiff_value.specs.FileLaws.{IsListable, AreListable}
 use Rattle.tiff_encode.specs.Shows.{Image, Shows, ShowsFirst, gray_image}
-use Rattle.tiff_encode.specs.lemmas.Header as its_header
-use Rattle.tiff_encode.specs.lemmas.Slices.{ok_inj}
-use Rattle.tiff_encode.proofs.FileAndModel.{standing_entry, entries_standing}
-use Rattle.tiff_encode.proofs.WriteOps.{ops_stand}
+use Rattle.tiff_value.specs.lemmas.File.Header as its_header
+use Rattle.tiff_base.specs.lemmas.Slices.{ok_inj}
+use Rattle.tiff_value.specs.lemmas.File.FileAndModel.{standing_entry, entries_standing}
+use Rattle.tiff_value.specs.lemmas.File.WriteOps.{ops_stand}
 use Rattle.test_definitions.specs.OneValue.{long_field, one_to_one}
 use Rattle.test_definitions.proofs.Maps.{puts, entries_puts, len_puts}
 use Rattle.test_definitions.specs.Encode.Calls.{header}

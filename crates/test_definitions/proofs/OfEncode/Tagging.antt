@@ -7,7 +7,7 @@ use Rattle.tiff_base.specs.Field.{Field}
 use Rattle.tiff_encode.specs.Machine.{FileState, OpenDirectory, OpenImage}
 use Rattle.tiff_encode.specs.Ends.{EndsAsDefined}
 use Rattle.tiff_encode.specs.Tagging.{write_fields, StopsInPart}
-use Rattle.tiff_encode.specs.lemmas.Slices.{ok_inj}
+use Rattle.tiff_base.specs.lemmas.Slices.{ok_inj}
 use Rattle.test_definitions.specs.OneValue.{short_field, rational_field}
 use Rattle.test_definitions.specs.Encode.Calls.{with_fields}
 use Rattle.test_definitions.specs.Encode.Causes.{new_file}

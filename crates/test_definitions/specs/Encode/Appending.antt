@@ -3,7 +3,7 @@ use Rattle.std.specs.Prelude.{◌≡◌, ℕ, List, [], ◌∷◌, ◌++◌, Non
 use Rattle.tiff_base.specs.declared.error.TiffError.TheVariants.{IoError}
 use Rattle.tiff_base.specs.declared.io.IoKind.TheVariants.{UnexpectedEof}
 use Rattle.tiff_base.specs.declared.tags.FileKind.TheVariants.{Classic, Big}
-use Rattle.tiff_encode.specs.FileBytes.{header_bytes}
+use Rattle.tiff_value.specs.FileBytes.{header_bytes}
 use Rattle.tiff_encode.specs.LongerChain.{file_chain, last_link_at}
 
 -- a classic header with these bytes as its link

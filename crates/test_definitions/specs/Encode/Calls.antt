@@ -13,8 +13,8 @@ use Rattle.tiff_base.specs.declared.tags.«Type».TheVariants.{ASCII, SHORT}
 use Rattle.tiff_base.specs.Field.{Field}
 use Rattle.tiff_value.specs.Data.{FieldData, u8s, u16s, u32s, data_of, text_data}
 use Rattle.tiff_encode.specs.declared.encoder.settings.Compression.TheVariants.{Packbits}
-use Rattle.tiff_encode.specs.Value.{offset_values, data_in, buffer_data, is_long, filled_field, field_at}
-use Rattle.tiff_encode.specs.WriteOps.{Appended, Supplied, Listed, Linked}
+use Rattle.tiff_value.specs.Fields.{offset_values, data_in, buffer_data, is_long, filled_field, field_at}
+use Rattle.tiff_value.specs.WriteOps.{Appended, Supplied, Listed, Linked}
 use Rattle.tiff_encode.specs.Machine.{FileState, OpenDirectory, WriteOutcome, ◌>>=◌}
 use Rattle.tiff_encode.specs.Calls as calls
 use Rattle.tiff_encode.specs.Calls.{new_directory}

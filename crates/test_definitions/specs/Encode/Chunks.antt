@@ -17,7 +17,7 @@ use Rattle.tiff_base.specs.Field.{Field}
 use Rattle.tiff_value.specs.ColorType.{ColorTypeRecord}
 use Rattle.tiff_value.specs.Data.{u16s, u32s, methods, predictors, interpretations, units, formats, rationals}
 use Rattle.tiff_encode.specs.declared.encoder.settings.Compression.TheVariants.{Packbits, PackbitsRows}
-use Rattle.tiff_encode.specs.FileBytes.{header_bytes}
+use Rattle.tiff_value.specs.FileBytes.{header_bytes}
 use Rattle.tiff_encode.specs.Machine.{FileState, OpenImage}
 use Rattle.tiff_encode.specs.Calls as calls
 use Rattle.tiff_encode.specs.Chunks.{parts_left}

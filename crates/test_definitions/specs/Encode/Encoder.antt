@@ -7,7 +7,7 @@ use Rattle.tiff_base.specs.declared.io.IoKind.TheVariants.{Device}
 use Rattle.tiff_base.specs.declared.io.SinkFault.TheVariants as fault
 use Rattle.tiff_base.specs.declared.tags.FileKind.TheVariants.{Classic}
 use Rattle.tiff_value.specs.Written.{Written}
-use Rattle.tiff_encode.specs.Laws.{IsListable}
+use Rattle.tiff_value.specs.FileLaws.{IsListable}
 use Rattle.tiff_encode.specs.Machine.{FileState}
 use Rattle.tiff_encode.specs.Machine as machine
 use Rattle.tiff_encode.specs.Encoder.{is_too_far, HeaderFails, AppendIsStopped, AppendIsCut, IsTorn}

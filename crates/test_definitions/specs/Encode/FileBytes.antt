@@ -6,7 +6,7 @@ use Rattle.tiff_base.specs.declared.tags.FileKind.TheVariants.{Classic, Big}
 use Rattle.tiff_base.specs.declared.tags.Predictor.TheVariants as predictor
 use Rattle.tiff_value.specs.Written.{Written, writer_after, writer_after_counted}
 use Rattle.tiff_encode.specs.declared.encoder.settings.Compression.TheVariants.{Uncompressed}
-use Rattle.tiff_encode.specs.FileBytes.{header_bytes, entry_bytes, directory_bytes, padding, rows_per_strip}
+use Rattle.tiff_value.specs.FileBytes.{header_bytes, entry_bytes, directory_bytes, padding, rows_per_strip}
 use Rattle.tiff_encode.specs.Machine.{FileState}
 use Rattle.test_definitions.specs.OneValue.{short_field, long_field}
 

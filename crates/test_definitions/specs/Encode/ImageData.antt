@@ -5,7 +5,7 @@ use Rattle.tiff_base.specs.declared.error.TiffError.TheVariants.{IoError, OutOfM
 use Rattle.tiff_base.specs.declared.io.IoKind.TheVariants.{InvalidData, Device}
 use Rattle.tiff_base.specs.declared.io.SinkFault.TheVariants as fault
 use Rattle.tiff_base.specs.declared.tags.FileKind.TheVariants.{Classic}
-use Rattle.tiff_encode.specs.Model.{Model, header_model, with_link}
+use Rattle.tiff_value.specs.Model.{Model, header_model, with_link}
 use Rattle.tiff_encode.specs.Machine.{FileState, OpenImage}
 use Rattle.tiff_encode.specs.Calls as calls
 use Rattle.tiff_encode.specs.Calls.{with_chunk}

@@ -5,7 +5,7 @@ use Rattle.tiff_base.specs.declared.error.TiffError.{TiffError}
 use Rattle.tiff_base.specs.declared.error.TiffError.TheVariants.{FormatError}
 use Rattle.tiff_base.specs.declared.error.TiffFormatError.TheVariants.{InvalidDimensions}
 use Rattle.tiff_base.specs.declared.tags.FileKind.TheVariants.{Classic}
-use Rattle.tiff_encode.specs.Model.{header_model}
+use Rattle.tiff_value.specs.Model.{header_model}
 use Rattle.tiff_encode.specs.Machine.{FileState}
 use Rattle.tiff_encode.specs.ImageData.{LeavesWhole, LeavesData, ShowsFinished, LeavesImage, LeavesNewImage}
 use Rattle.test_definitions.specs.Encode.Calls.{header}

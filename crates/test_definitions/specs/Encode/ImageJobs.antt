@@ -14,8 +14,8 @@ use Rattle.tiff_encode.specs.declared.encoder.script.Job.TheVariants as job
 use Rattle.tiff_encode.specs.declared.encoder.script.StepReply.TheVariants as reply
 use Rattle.tiff_encode.specs.declared.encoder.script.EndReply.TheVariants as last
 use Rattle.tiff_encode.specs.declared.encoder.script.JobReply.{JobReply}
-use Rattle.tiff_encode.specs.Model.{header_model}
-use Rattle.tiff_encode.specs.WriteOps.{Appended, Supplied, model_after}
+use Rattle.tiff_value.specs.Model.{header_model}
+use Rattle.tiff_value.specs.WriteOps.{Appended, Supplied, model_after}
 use Rattle.tiff_encode.specs.Machine.{OpenImage, WriteOutcome}
 use Rattle.tiff_encode.specs.Calls as calls
 use Rattle.tiff_encode.specs.Calls.{Offsets, new_directory}

@@ -29,9 +29,9 @@ use Rattle.tiff_encode.specs.declared.encoder.script.EndReply.TheVariants as las
 use Rattle.tiff_encode.specs.declared.encoder.script.JobReply.{JobReply}
 use Rattle.tiff_base.specs.Field.{DirectoryRecord, Field}
 use Rattle.tiff_base.specs.SourceAndSink.{put}
-use Rattle.tiff_encode.specs.FileBytes.{directory_bytes}
-use Rattle.tiff_encode.specs.Model.{FinishedDirectory, header_model, with_link, with_directory, with_region}
-use Rattle.tiff_encode.specs.WriteOps.{WriteOp, Appended, Listed, Linked, standing_fields}
+use Rattle.tiff_value.specs.FileBytes.{directory_bytes}
+use Rattle.tiff_value.specs.Model.{FinishedDirectory, header_model, with_link, with_directory, with_region}
+use Rattle.tiff_value.specs.WriteOps.{WriteOp, Appended, Listed, Linked, standing_fields}
 use Rattle.tiff_encode.specs.Machine.{FileState, OpenDirectory, answers, gives, does}
 use Rattle.tiff_encode.specs.Calls as calls
 use Rattle.tiff_encode.specs.Calls.{Offsets, new_directory}

@@ -5,12 +5,12 @@ use Rattle.tiff_base.specs.declared.io.IoKind.TheVariants.{Device}
 use Rattle.tiff_base.specs.declared.io.SinkFault.TheVariants as fault
 use Rattle.tiff_base.specs.declared.tags.FileKind.TheVariants.{Classic, Big}
 use Rattle.tiff_base.specs.declared.tags.«Type».TheVariants.{SHORT}
-use Rattle.tiff_encode.specs.FileBytes.{header_bytes}
-use Rattle.tiff_encode.specs.Model.{header_model}
-use Rattle.tiff_encode.specs.Laws.{IsListable}
+use Rattle.tiff_value.specs.FileBytes.{header_bytes}
+use Rattle.tiff_value.specs.Model.{header_model}
+use Rattle.tiff_value.specs.FileLaws.{IsListable}
 use Rattle.tiff_encode.specs.Machine.{FileState, does}
 use Rattle.tiff_encode.specs.Leaves.{Leaves, LeavesLinked, LeavesTorn, IsGiven}
-use Rattle.tiff_encode.specs.WriteOps.{WriteOp, Appended, Linked}
+use Rattle.tiff_value.specs.WriteOps.{WriteOp, Appended, Linked}
 use Rattle.tiff_encode.specs.FileWrites.{StandsAtEnd, AppendsToFile, PointsLink}
 use Rattle.tiff_encode.specs.Kind.{WritesHeader}
 use Rattle.test_definitions.specs.OneValue.{long_field}

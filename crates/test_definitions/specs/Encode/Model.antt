@@ -8,10 +8,10 @@ use Rattle.tiff_base.specs.declared.tags.ByteOrder.TheVariants.{LittleEndian}
 use Rattle.tiff_base.specs.declared.tags.«Type».TheVariants.{SHORT}
 use Rattle.tiff_base.specs.Field.{Field}
 use Rattle.tiff_base.specs.Directory.{directory_at}
-use Rattle.tiff_encode.specs.Laws.{OpFits, OpsFit, AreAppending}
-use Rattle.tiff_encode.specs.Model.{BytesAreApart, In, FinishedDirectory, SuppliedField, ByteRegion, Model, IsLink, IsClear, IsApart, own_link, whole_len, FileContains, header_model, with_link, with_directory, with_region, with_supplied, Grows}
+use Rattle.tiff_value.specs.FileLaws.{OpFits, OpsFit, AreAppending}
+use Rattle.tiff_value.specs.Model.{BytesAreApart, In, FinishedDirectory, SuppliedField, ByteRegion, Model, IsLink, IsClear, IsApart, own_link, whole_len, FileContains, header_model, with_link, with_directory, with_region, with_supplied, Grows}
 use Rattle.tiff_encode.specs.Shows.{Image, Shows, ShowsFirst, ShowsGray, gray_image}
-use Rattle.tiff_encode.specs.WriteOps.{Appended, Supplied, Listed, Linked, after_op, bytes_after, all_appended, standing_field, model_after}
+use Rattle.tiff_value.specs.WriteOps.{Appended, Supplied, Listed, Linked, after_op, bytes_after, all_appended, standing_field, model_after}
 use Rattle.tiff_encode.specs.Machine.{begun_file, answers, gives, does, by_cause, ◌>>=◌}
 use Rattle.test_definitions.specs.OneValue.{short_field, long_field, rational_field, one_to_one}
 use Rattle.test_definitions.specs.Files.{gray_file}

@@ -7,7 +7,7 @@ use Rattle.tiff_base.specs.declared.io.IoKind.TheVariants.{InvalidData}
 use Rattle.tiff_base.specs.declared.tags.ExtraSamples.TheVariants.{Unspecified}
 use Rattle.tiff_base.specs.declared.tags.FileKind.TheVariants.{Classic}
 use Rattle.tiff_base.specs.declared.tags.PlanarConfiguration.TheVariants.{Chunky}
-use Rattle.tiff_encode.specs.Model.{Model, header_model}
+use Rattle.tiff_value.specs.Model.{Model, header_model}
 use Rattle.tiff_encode.specs.Machine.{FileState, OpenImage}
 use Rattle.tiff_encode.specs.Calls as calls
 use Rattle.tiff_encode.specs.Calls.{strips_of}

@@ -8,10 +8,10 @@ use Rattle.tiff_base.specs.SourceAndSink.{Overwrites, exactly_at, put}
 use Rattle.tiff_encode.specs.declared.encoder.script.Job.{Job}
 use Rattle.tiff_encode.specs.declared.encoder.script.JobReply.{JobReply}
 use Rattle.tiff_encode.specs.Appending.{Continues}
-use Rattle.tiff_encode.specs.FileBytes.{offset_len}
+use Rattle.tiff_value.specs.FileBytes.{offset_len}
 use Rattle.tiff_encode.specs.lemmas.FormerBytes.{put_past, put_over}
 use Rattle.tiff_encode.proofs.Running.Behind.{jobs_continue}
-use Rattle.tiff_encode.specs.lemmas.Slices.{exact_append, exact_put_here, length_put, ok_inj}
+use Rattle.tiff_base.specs.lemmas.Slices.{exact_append, exact_put_here, length_put, ok_inj}
 use Rattle.tiff_append.specs.declared.sink.Addition.{Addition}
 use Rattle.tiff_append.specs.Behind.{IsAddedTo, RefusesLink, RunsAt, RunsBehind, added_to}
 

@@ -1,5 +1,5 @@
 -- The cause of an error, where one call returns the error of another.
-use Rattle.std.proofs.Common.{◌≡◌, true, false, Bool, refl}
+use Rattle.std.proofs.Common.{◌≡◌, true, false, refl}
 use Rattle.std.specs.Prelude.{◌||◌}
 use Rattle.tiff_base.specs.declared.error.TiffError.{TiffError}
 use Rattle.tiff_base.specs.declared.error.TiffError.TheVariants.{IoError, OutOfMemory}
@@ -9,10 +9,6 @@ use Rattle.tiff_base.specs.Answers.{IsCause, is_device, is_memory}
 pub memory_is : (e : TiffError) → is_memory e ≡ true → e ≡ OutOfMemory
 memory_is OutOfMemory is = refl
 memory_is e is = absurd (cc)
-
-pub device_is : (e : TiffError) → is_device e ≡ true → e ≡ IoError Device
-device_is (IoError Device) is = refl
-device_is e is = absurd (cc)
 
 pub memory_not_device : (e : TiffError) → is_memory e ≡ true → is_device e ≡ false
 memory_not_device OutOfMemory is = refl
@@ -50,8 +46,3 @@ named_cause OutOfMemory named g = absurd (cc)
 named_cause (IoError Device) named g = absurd (cc)
 named_cause e named g =
     record { memory = λ is. absurd (cc); device = λ is. absurd (cc); other = λ _. g }
-
--- an error that isn't that the device failed
-pub unless_device : (e : TiffError) → (is_device e ≡ true → ⊥) → is_device e ≡ false
-unless_device (IoError Device) isnt = absurd (isnt refl)
-unless_device e isnt = refl

@@ -8,15 +8,15 @@ use Rattle.tiff_base.specs.declared.tags.Tag.{Tag}
 use Rattle.tiff_base.specs.Directory.{link_offset}
 use Rattle.tiff_value.specs.ColorType.{ColorTypeRecord}
 use Rattle.tiff_value.specs.Data.{Scalars}
-use Rattle.tiff_encode.specs.Model.{FinishedDirectory, Model, IsLink}
-use Rattle.tiff_encode.specs.WriteOps.{WriteOp, Listed, bytes_after, model_after, standing_fields}
+use Rattle.tiff_value.specs.Model.{FinishedDirectory, Model, IsLink}
+use Rattle.tiff_value.specs.WriteOps.{WriteOp, Listed, bytes_after, model_after, standing_fields}
 use Rattle.tiff_encode.specs.Machine.{FileState, OpenDirectory, OpenImage, WriteOutcome, WriteCall, gives, does, after_ops, by_cause, ◌>>=◌}
 use Rattle.tiff_encode.specs.Causes.{end_of, begin_cause, finish_cause, new_image_cause}
 use Rattle.tiff_encode.specs.Calls.{Offsets, offsets_of, links_to, chain_after, chains, finish, new_directory, pad, image_directory, write_tags, first_tags, image_in, new_image, last_tags, finish_image}
 use Rattle.tiff_encode.specs.Ends.{CallFails}
 use Rattle.tiff_encode.specs.Open.{model_by}
-use Rattle.tiff_encode.specs.lemmas.Slices.{ok_inj}
-use Rattle.tiff_encode.proofs.FileAndModel.{len_standing}
+use Rattle.tiff_base.specs.lemmas.Slices.{ok_inj}
+use Rattle.tiff_value.specs.lemmas.File.FileAndModel.{len_standing}
 use Rattle.tiff_encode.proofs.Keeping.{failed_so}
 use Rattle.tiff_encode.proofs.Joining.{IsAdding, adding, caused_adds, bind_adds, bind_adding, begin_adds, answers_adding}
 use Rattle.tiff_encode.proofs.Open.Tags.{tags_adding}

@@ -1,12 +1,12 @@
 -- Calls that append, and may patch a link last.
 use Rattle.std.proofs.Common.{◌≡◌, ℕ, ◌≤◌, List, [], ◌∷◌, ◌++◌, Option, Some, None, Result, Ok, Err, refl, sym, ◌∙◌, arith}
 use Rattle.tiff_base.specs.declared.error.TiffError.{TiffError}
-use Rattle.tiff_encode.specs.WriteOps.{WriteOp, Appended, Supplied, Listed, Linked, model_after}
-use Rattle.tiff_encode.specs.Laws.{AreAppending}
+use Rattle.tiff_value.specs.WriteOps.{WriteOp, Appended, Supplied, Listed, Linked, model_after}
+use Rattle.tiff_value.specs.FileLaws.{AreAppending}
 use Rattle.tiff_encode.specs.Machine.{FileState, WriteOutcome, WriteCall, after_ops, by_cause, and_then, ◌>>=◌}
-use Rattle.tiff_encode.specs.Model.{Model}
+use Rattle.tiff_value.specs.Model.{Model}
 use Rattle.tiff_encode.specs.Open.{model_by}
-use Rattle.tiff_encode.proofs.WriteOps.{model_joined}
+use Rattle.tiff_value.specs.lemmas.File.WriteOps.{model_joined}
 use Rattle.tiff_encode.proofs.Leaving.{link_count, count_joined, ok_err}
 use Rattle.tiff_encode.proofs.Joining.{IsAdding, appending_joined}
 use Rattle.tiff_encode.proofs.Image.FitsCalls.{IsDone, adding_done, bind_done}

@@ -2,16 +2,16 @@
 use Rattle.std.proofs.Common.{◌≡◌, ℕ, List, [], ◌∷◌, ◌++◌, length, Option, Some, None, Ok, refl, ap, sym, ◌∙◌, subst}
 use Rattle.tiff_base.specs.declared.error.TiffError.{TiffError}
 use Rattle.tiff_base.specs.Field.{AreEntries}
-use Rattle.tiff_encode.specs.Model.{Model, IsLink}
-use Rattle.tiff_encode.specs.WriteOps.{Listed, model_after}
+use Rattle.tiff_value.specs.Model.{Model, IsLink}
+use Rattle.tiff_value.specs.WriteOps.{Listed, model_after}
 use Rattle.std.specs.FinMap.{len}
-use Rattle.tiff_encode.specs.Laws.{AreAppending}
+use Rattle.tiff_value.specs.FileLaws.{AreAppending}
 use Rattle.tiff_encode.specs.Machine.{FileState, OpenDirectory, OpenImage, WriteCall, gives, does, by_cause, ◌>>=◌}
 use Rattle.tiff_encode.specs.Chunks.{parts_left}
 use Rattle.tiff_encode.specs.Causes.{end_of, finish_cause, write_chunk_cause, write_image_data_cause}
 use Rattle.tiff_encode.specs.Calls.{Offsets, offsets_of, links_to, chains, with_field, write_entry, write_tag, write_tags, finish, with_chunk, appends_chunk, write_chunk, last_tags, finish_image, write_chunks, write_image_data}
-use Rattle.tiff_encode.specs.lemmas.Slices.{ok_inj}
-use Rattle.tiff_encode.proofs.WriteOps.{ops_grow, link_kept}
+use Rattle.tiff_base.specs.lemmas.Slices.{ok_inj}
+use Rattle.tiff_value.specs.lemmas.File.WriteOps.{ops_grow, link_kept}
 use Rattle.tiff_encode.proofs.Runs.{uncaused}
 use Rattle.tiff_encode.proofs.Leaving.{finish_plain}
 use Rattle.tiff_encode.proofs.Joining.{IsAdding, Adds, adding, stored_adds, bind_adding, answers_adding}

@@ -14,10 +14,10 @@ use Rattle.tiff_value.specs.ColorType.{ColorTypeRecord}
 use Rattle.tiff_value.specs.ColorTypes.{Family, count_of, color_type, inner_size}
 use Rattle.tiff_page.specs.Page.{PageRecord}
 use Rattle.tiff_page.specs.Layout.{color_from, color_of}
-use Rattle.tiff_encode.specs.FileBytes.{offset_len}
-use Rattle.tiff_encode.specs.Model.{Model, IsLink, FileContains}
-use Rattle.tiff_encode.specs.WriteOps.{all_appended}
-use Rattle.tiff_encode.specs.Laws.{OpsFit}
+use Rattle.tiff_value.specs.FileBytes.{offset_len}
+use Rattle.tiff_value.specs.Model.{Model, IsLink, FileContains}
+use Rattle.tiff_value.specs.WriteOps.{all_appended}
+use Rattle.tiff_value.specs.FileLaws.{OpsFit}
 use Rattle.tiff_encode.specs.Machine.{FileState, OpenImage, WriteOutcome}
 use Rattle.tiff_encode.specs.Drawn.{IsValidImage}
 use Rattle.tiff_encode.specs.Chunks.{all_samples, shown_page, parts_left}
@@ -28,8 +28,8 @@ use Rattle.tiff_encode.specs.Shows.{shown_columns, Shows}
 use Rattle.tiff_encode.specs.Held.{image_with}
 use Rattle.tiff_encode.specs.Open.{RecordsImage, model_by}
 use Rattle.tiff_encode.specs.ImageData.{image_of_samples, WritesImageData, WritesImage, IsShortFile, AreNumbers, LeavesImage, LeavesNewImage, PartsShow, ImageLeaves}
-use Rattle.tiff_encode.specs.lemmas.Slices.{ok_inj, some_inj}
-use Rattle.tiff_encode.proofs.WriteOps.{ops_stand, ops_grow, link_kept}
+use Rattle.tiff_base.specs.lemmas.Slices.{ok_inj, some_inj}
+use Rattle.tiff_value.specs.lemmas.File.WriteOps.{ops_stand, ops_grow, link_kept}
 use Rattle.tiff_encode.proofs.Open.Begun.{begins_open}
 use Rattle.tiff_encode.proofs.Image.FitsCalls.{put_longer, done_longer}
 use Rattle.tiff_encode.proofs.Image.Fits.{new_image_fits}

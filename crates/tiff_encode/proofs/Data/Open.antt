@@ -2,14 +2,14 @@
 use Rattle.std.proofs.Common.{◌≡◌, ℕ, ◌+◌, ◌^◌, ◌<◌, List, [], ◌∷◌, ◌++◌, length, Ok, refl, ap, sym, ◌∙◌, subst, arith, append_assoc, append-nil}
 use Rattle.std.proofs.lemmas.List.{length-append}
 use Rattle.tiff_page.specs.Rect.{rect}
-use Rattle.tiff_encode.specs.Model.{Model}
+use Rattle.tiff_value.specs.Model.{Model}
 use Rattle.tiff_encode.specs.Machine.{FileState, Chunk, OpenImage, WriteCall}
 use Rattle.tiff_encode.specs.Chunks.{image_page, chunk_samples}
 use Rattle.tiff_encode.specs.Causes.{end_of, write_chunk_cause}
 use Rattle.tiff_encode.specs.Calls.{with_chunk, appends_chunk, write_chunk, write_chunks}
 use Rattle.tiff_encode.specs.Stored.{unpacked_chunk, AreStored}
 use Rattle.tiff_encode.specs.Open.{RecordsImage, model_by}
-use Rattle.tiff_encode.specs.lemmas.Slices.{ok_inj}
+use Rattle.tiff_base.specs.lemmas.Slices.{ok_inj}
 use Rattle.tiff_encode.proofs.Open.Chunks.{chunk_keeps_open}
 use Rattle.tiff_encode.proofs.Joining.{adding}
 use Rattle.tiff_encode.proofs.Image.FitsCalls.{done_longer}

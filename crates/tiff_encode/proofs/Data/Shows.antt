@@ -4,7 +4,7 @@ use Rattle.tiff_base.specs.declared.error.TiffError.{TiffError}
 use Rattle.tiff_base.specs.declared.tags.FileKind.{FileKind}
 use Rattle.tiff_base.specs.Field.{AreEntries}
 use Rattle.tiff_page.specs.Counts.{all_chunks}
-use Rattle.tiff_encode.specs.Model.{Model, IsLink, FileContains}
+use Rattle.tiff_value.specs.Model.{Model, IsLink, FileContains}
 use Rattle.tiff_encode.specs.Machine.{FileState, Chunk, OpenImage, WriteOutcome, WriteCall, after_ops, by_cause, ◌>>=◌}
 use Rattle.tiff_encode.specs.Chunks.{image_page, is_left, parts_left, sample_in}
 use Rattle.tiff_encode.specs.Causes.{end_of, write_image_data_cause}

@@ -13,7 +13,7 @@ use Rattle.tiff_page.specs.Rect.{rect}
 use Rattle.tiff_encode.specs.Calls.{Offsets, with_chunk, appends_chunk, finish_image, write_chunk, write_chunks, write_image_data}
 use Rattle.tiff_encode.specs.Causes.{unless_ended, image_samples, is_past_chunks, write_chunk_cause, write_image_data_cause}
 use Rattle.tiff_encode.specs.Chunks.{image_page, row_samples, chunk_samples, is_begun, is_in_order, chunks_left, cut_out, part, parts_left}
-use Rattle.tiff_encode.specs.WriteOps.{WriteOp, all_appended}
+use Rattle.tiff_value.specs.WriteOps.{WriteOp, all_appended}
 use Rattle.tiff_encode.specs.Ends.{EndsAsDefined, AppendFailed, IsShortOfMemory, HasBegun, CallFails, Ends}
 use Rattle.tiff_encode.specs.ImageData.{StopsWithin, WritesChunks, WritesDataBy, WritesImageData}
 use Rattle.tiff_encode.specs.Machine.{FileState, Chunk, OpenImage, WriteOutcome, WriteCall, gives, answers, by_cause, and_then, ◌>>=◌}

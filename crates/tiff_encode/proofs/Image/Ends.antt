@@ -2,7 +2,7 @@
 use Rattle.std.proofs.Common.{◌≡◌, ℕ, ◌⊎◌, false, List, Some, Result, Ok, Err, sym, inl, inr, subst}
 use Rattle.tiff_base.specs.declared.error.TiffError.{TiffError}
 use Rattle.tiff_base.specs.Field.{AreEntries}
-use Rattle.tiff_encode.specs.Model.{Model, IsLink, FileContains}
+use Rattle.tiff_value.specs.Model.{Model, IsLink, FileContains}
 use Rattle.tiff_encode.specs.Machine.{FileState, OpenImage}
 use Rattle.tiff_encode.specs.Chunks.{is_left}
 use Rattle.tiff_encode.specs.Calls.{finish_image}

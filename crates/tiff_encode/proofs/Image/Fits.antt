@@ -18,23 +18,23 @@ use Rattle.tiff_base.specs.Tags.{tag_number}
 use Rattle.tiff_value.specs.ColorType.{ColorTypeRecord}
 use Rattle.tiff_value.specs.Data.{Scalars, u16s}
 use Rattle.tiff_value.specs.lemmas.Data.{data_is_whole}
-use Rattle.tiff_encode.specs.FileBytes.{directory_bytes}
-use Rattle.tiff_encode.specs.Model.{Model, IsLink}
-use Rattle.tiff_encode.specs.WriteOps.{WriteOp, Listed, bytes_after, model_after}
+use Rattle.tiff_value.specs.FileBytes.{directory_bytes}
+use Rattle.tiff_value.specs.Model.{Model, IsLink}
+use Rattle.tiff_value.specs.WriteOps.{WriteOp, Listed, bytes_after, model_after}
 use Rattle.tiff_encode.specs.Machine.{FileState, OpenDirectory, OpenImage, WriteCall, gives, does, by_cause, ◌>>=◌}
 use Rattle.tiff_encode.specs.Chunks.{all_samples}
 use Rattle.tiff_encode.specs.Causes.{end_of, begin_cause, finish_cause, new_image_cause, write_strip_cause, write_chunk_cause}
 use Rattle.tiff_encode.specs.Calls.{new_directory, pad, image_directory, appends, Offsets, offsets_of, links_to, chain_after, chains, finish, write_tags, chroma_tags, first_tags, image_in, new_image, with_chunk, appends_chunk, write_strip, write_chunk, chunk_tags, last_tags, finish_image}
 use Rattle.tiff_encode.specs.CallLaws.{CallFits, NewImageFits, SettingsFit, ResolutionsFit, ChunksFit, FinishImageFits}
-use Rattle.tiff_encode.specs.lemmas.Slices.{ok_inj}
-use Rattle.tiff_encode.proofs.WriteOps.{ops_grow, link_kept}
+use Rattle.tiff_base.specs.lemmas.Slices.{ok_inj}
+use Rattle.tiff_value.specs.lemmas.File.WriteOps.{ops_grow, link_kept}
 use Rattle.tiff_encode.proofs.Ending.{length-listed}
 use Rattle.tiff_encode.proofs.Joining.{adding, appends_adds, begin_adds}
 use Rattle.tiff_encode.proofs.Leaving.{ok_err, finish_plain, entries_fit}
 use Rattle.tiff_encode.specs.Tagging.{fields_of}
 use Rattle.tiff_encode.proofs.Tagging.{tags_are_fields}
 use Rattle.tiff_encode.proofs.Image.Table.{Row, written, Setting, Extra, Rows, Sides, Planes, Both, Across, Down, Measure, call_of, row, called}
-use Rattle.tiff_encode.proofs.Image.FitsEntries.{no_entries, remove_entries, data_bytes}
+use Rattle.tiff_value.specs.lemmas.File.FitsEntries.{no_entries, remove_entries, data_bytes}
 use Rattle.tiff_encode.proofs.Image.FitsCalls.{IsDone, adding_done, plain_done, gives_done, bind_done, ops_longer, done_longer, Fits, cause_fits, bind_fits, viewed_fits, AreData, Keeps, fields_done, fields_fit}
 
 -- ---- several tags

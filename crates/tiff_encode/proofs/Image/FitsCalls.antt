@@ -10,21 +10,21 @@ use Rattle.tiff_base.specs.Number.{le}
 use Rattle.tiff_base.specs.Tags.{tag_number}
 use Rattle.tiff_base.specs.SourceAndSink.{put}
 use Rattle.tiff_value.specs.Data.{FieldData, IsWhole}
-use Rattle.tiff_encode.specs.FileBytes.{offset_len, directory_bytes}
-use Rattle.tiff_encode.specs.Model.{SuppliedField, Model}
-use Rattle.tiff_encode.specs.WriteOps.{WriteOp, Appended, Supplied, Listed, Linked, after_op, bytes_after, model_after}
-use Rattle.tiff_encode.specs.Laws.{OpsFit}
-use Rattle.tiff_encode.specs.Value.{is_long, field_at}
+use Rattle.tiff_value.specs.FileBytes.{offset_len, directory_bytes}
+use Rattle.tiff_value.specs.Model.{SuppliedField, Model}
+use Rattle.tiff_value.specs.WriteOps.{WriteOp, Appended, Supplied, Listed, Linked, after_op, bytes_after, model_after}
+use Rattle.tiff_value.specs.FileLaws.{OpsFit}
+use Rattle.tiff_value.specs.Fields.{is_long, field_at}
 use Rattle.tiff_encode.specs.Machine.{FileState, OpenDirectory, WriteOutcome, WriteCall, answers, gives, by_cause, and_then, ◌>>=◌}
 use Rattle.tiff_encode.specs.Causes.{end_of, field_cause, write_tag_cause}
 use Rattle.tiff_encode.specs.Calls.{with_field, placed_field, write_entry, write_tag}
 use Rattle.tiff_encode.specs.Tagging.{write_fields}
-use Rattle.tiff_encode.specs.lemmas.Slices.{ok_inj}
-use Rattle.tiff_encode.proofs.WriteOps.{bytes_joined, fits_joined, ops_append}
+use Rattle.tiff_base.specs.lemmas.Slices.{ok_inj}
+use Rattle.tiff_value.specs.lemmas.File.WriteOps.{bytes_joined, fits_joined, ops_append}
 use Rattle.tiff_encode.proofs.CallFits.{offset_len_8, placed_fits}
 use Rattle.tiff_encode.proofs.Joining.{IsAdding, adding, entry_adds, tag_adds}
 use Rattle.tiff_encode.proofs.Leaving.{IsPlain, ok_err, unended}
-use Rattle.tiff_encode.proofs.Image.FitsEntries.{insert_entries, AreBytes, field_entry}
+use Rattle.tiff_value.specs.lemmas.File.FitsEntries.{insert_entries, AreBytes, field_entry}
 
 -- ---- what calls do to the bytes
 

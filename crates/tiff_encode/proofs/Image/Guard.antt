@@ -2,8 +2,8 @@
 use Rattle.std.proofs.Common.{◌≡◌, ℕ, ◌^◌, ◌<◌, None, Result, Ok, Err, ap, ◌∙◌, subst}
 use Rattle.tiff_base.specs.declared.error.TiffError.{TiffError}
 use Rattle.tiff_value.specs.ColorType.{ColorTypeRecord}
-use Rattle.tiff_encode.specs.Model.{Model, FileContains}
-use Rattle.tiff_encode.specs.Laws.{OpsFit}
+use Rattle.tiff_value.specs.Model.{Model, FileContains}
+use Rattle.tiff_value.specs.FileLaws.{OpsFit}
 use Rattle.tiff_encode.specs.Machine.{FileState, OpenDirectory, OpenImage, WriteCall, gives, ◌>>=◌}
 use Rattle.tiff_encode.specs.Causes.{end_of, new_image_cause}
 use Rattle.tiff_encode.specs.Calls.{image_directory, write_tags, first_tags, image_in, new_image}

@@ -3,7 +3,7 @@ use Rattle.std.proofs.Common.{◌≡◌, ℕ, ◌^◌, ◌<◌, Bool, true, List
 use Rattle.std.specs.Prelude.{OnErr}
 use Rattle.tiff_base.specs.declared.error.TiffError.{TiffError}
 use Rattle.tiff_encode.specs.declared.encoder.script.StepReply.{StepReply}
-use Rattle.tiff_encode.specs.Model.{Model, FileContains, Grows}
+use Rattle.tiff_value.specs.Model.{Model, FileContains, Grows}
 use Rattle.tiff_encode.specs.Machine.{FileState, OpenImage, WriteCall}
 use Rattle.tiff_encode.specs.Ends.{Ends}
 use Rattle.tiff_encode.specs.Leaves.{Leaves}

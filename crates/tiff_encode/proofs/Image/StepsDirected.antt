@@ -11,7 +11,7 @@ use Rattle.tiff_encode.specs.declared.encoder.script.DirectoryStep.TheVariants a
 use Rattle.tiff_encode.specs.declared.encoder.script.ImageStep.TheVariants as istep
 use Rattle.tiff_encode.specs.declared.encoder.script.StepReply.{StepReply}
 use Rattle.tiff_encode.specs.declared.encoder.script.StepReply.TheVariants as reply
-use Rattle.tiff_encode.specs.Model.{Grows}
+use Rattle.tiff_value.specs.Model.{Grows}
 use Rattle.tiff_encode.specs.Machine.{FileState, OpenDirectory, OpenImage, WriteCall}
 use Rattle.tiff_encode.specs.Calls.{with_directory_of, write_tag, write_tag_buf, extend_from}
 use Rattle.tiff_encode.specs.JobValues.{value_data, buffer_in}

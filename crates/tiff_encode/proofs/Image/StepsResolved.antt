@@ -12,9 +12,9 @@ use Rattle.tiff_base.specs.Field.{AreEntries}
 use Rattle.tiff_base.specs.Tags.{tag_number}
 use Rattle.tiff_value.specs.Data.{FieldData, Scalars, units, rationals, data_of}
 use Rattle.tiff_page.specs.Checks.{is_page_tag}
-use Rattle.tiff_encode.specs.Model.{Model, FileContains, Grows}
-use Rattle.tiff_encode.specs.WriteOps.{all_appended}
-use Rattle.tiff_encode.specs.Laws.{AreAppending}
+use Rattle.tiff_value.specs.Model.{Model, FileContains, Grows}
+use Rattle.tiff_value.specs.WriteOps.{all_appended}
+use Rattle.tiff_value.specs.FileLaws.{AreAppending}
 use Rattle.tiff_encode.specs.Machine.{FileState, OpenDirectory, OpenImage, WriteOutcome, gives, and_then, ◌>>=◌}
 use Rattle.tiff_encode.specs.Causes.{end_of, resolution_cause}
 use Rattle.tiff_encode.specs.Calls.{write_tags, with_directory_of, with_tags, resolution_tags, resolution}
@@ -26,7 +26,7 @@ use Rattle.tiff_encode.specs.Jobs as jobs
 use Rattle.tiff_encode.specs.Jobs.{FileAndModel, IsCutShort, IsWithoutMemory}
 use Rattle.tiff_encode.specs.Stepping.{StandsIfKnown}
 use Rattle.tiff_encode.specs.ImageStepping.{reply_to, ResolutionDraws}
-use Rattle.tiff_encode.proofs.WriteOps.{ops_grow}
+use Rattle.tiff_value.specs.lemmas.File.WriteOps.{ops_grow}
 use Rattle.tiff_encode.proofs.Image.Fits.{are_short, both, row_fits}
 use Rattle.tiff_encode.proofs.Image.FitsCalls.{Fits}
 use Rattle.tiff_encode.proofs.Image.Steps.{CallDraws, call_draws}

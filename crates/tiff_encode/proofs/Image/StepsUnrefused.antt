@@ -10,9 +10,9 @@ use Rattle.tiff_base.specs.declared.tags.Tag.{Tag}
 use Rattle.tiff_base.specs.declared.tags.Tag.TheVariants as tag
 use Rattle.tiff_base.specs.Field.{Field}
 use Rattle.tiff_value.specs.Data.{FieldData, Scalars, units, rationals, data_of}
-use Rattle.tiff_encode.specs.Model.{SuppliedField}
-use Rattle.tiff_encode.specs.WriteOps.{Appended, Supplied, bytes_after}
-use Rattle.tiff_encode.specs.Value.{is_long, field_at}
+use Rattle.tiff_value.specs.Model.{SuppliedField}
+use Rattle.tiff_value.specs.WriteOps.{Appended, Supplied, bytes_after}
+use Rattle.tiff_value.specs.Fields.{is_long, field_at}
 use Rattle.tiff_encode.specs.Machine.{FileState, OpenDirectory, WriteOutcome, WriteCall, answers, gives, by_cause, ◌>>=◌}
 use Rattle.tiff_encode.specs.Placing.{field_test}
 use Rattle.tiff_encode.specs.Causes.{end_of, is_past, write_tag_cause, resolution_cause}

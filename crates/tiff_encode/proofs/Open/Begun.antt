@@ -19,8 +19,8 @@ use Rattle.tiff_value.specs.ColorTypes.{color_type, inner_size}
 use Rattle.tiff_value.specs.lemmas.ColorTypes.{are_color_types}
 use Rattle.tiff_encode.specs.declared.encoder.settings.Compression.{Compression}
 use Rattle.tiff_encode.specs.declared.encoder.settings.Compression.TheVariants.{Uncompressed, Packbits, PackbitsRows}
-use Rattle.tiff_encode.specs.FileBytes.{rows_per_strip}
-use Rattle.tiff_encode.specs.Model.{Model}
+use Rattle.tiff_value.specs.FileBytes.{rows_per_strip}
+use Rattle.tiff_value.specs.Model.{Model}
 use Rattle.tiff_encode.specs.Machine.{FileState, OpenDirectory, OpenImage, WriteCall, gives, ◌>>=◌}
 use Rattle.tiff_encode.specs.Drawn.{IsSide}
 use Rattle.tiff_encode.specs.Causes.{begin_cause, is_not_whole, is_unpredicted, predictor_cause, new_image_cause, image_cause}
@@ -28,7 +28,7 @@ use Rattle.tiff_encode.specs.Calls.{new_directory, pad, image_directory, default
 use Rattle.tiff_encode.specs.Held.{Given, HoldsAt, HoldsValues, chroma_given}
 use Rattle.tiff_encode.specs.Open.{TellsOpen, HoldsChunks, RecordsImage, model_by, BeginsOpen}
 use Rattle.tiff_encode.proofs.Columns.{columns_side, size_some}
-use Rattle.tiff_encode.specs.lemmas.Slices.{ok_inj}
+use Rattle.tiff_base.specs.lemmas.Slices.{ok_inj}
 use Rattle.tiff_encode.proofs.Runs.{uncaused}
 use Rattle.tiff_encode.proofs.Joining.{adding, begin_adds}
 use Rattle.tiff_encode.proofs.Open.Held.{none_held, set, unset_same}

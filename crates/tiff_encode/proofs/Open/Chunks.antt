@@ -8,8 +8,8 @@ use Rattle.std.specs.Prelude.{not, ◌==◌, slice_index}
 use Rattle.tiff_base.specs.lemmas.Common.{neither}
 use Rattle.tiff_page.specs.Counts.{all_chunks}
 use Rattle.tiff_page.specs.Rect.{rect}
-use Rattle.tiff_encode.specs.FileBytes.{offset_len}
-use Rattle.tiff_encode.specs.Model.{In, ByteRegion, Model, with_region}
+use Rattle.tiff_value.specs.FileBytes.{offset_len}
+use Rattle.tiff_value.specs.Model.{In, ByteRegion, Model, with_region}
 use Rattle.tiff_encode.specs.Machine.{FileState, Chunk, OpenImage}
 use Rattle.tiff_encode.specs.Chunks.{image_page, chunk_samples, is_left, next_chunk_sample_count}
 use Rattle.tiff_encode.specs.Causes.{end_of, is_past, chunk_cause, write_chunk_cause, write_strip_cause}
@@ -17,14 +17,14 @@ use Rattle.tiff_encode.specs.Calls.{with_chunk, appends_chunk, write_chunk, writ
 use Rattle.tiff_encode.specs.Stored.{unpacked_chunk, IsChunkStored}
 use Rattle.tiff_encode.specs.Held.{samples_of_chunk}
 use Rattle.tiff_encode.specs.Open.{HoldsChunks, RecordsImage, model_by, ChunksKeepOpen}
-use Rattle.tiff_encode.specs.lemmas.Slices.{ok_inj}
+use Rattle.tiff_base.specs.lemmas.Slices.{ok_inj}
 use Rattle.tiff_encode.proofs.CallFits.{offset_fits}
 use Rattle.tiff_encode.proofs.Open.Held.{holds_grown}
 use Rattle.tiff_encode.proofs.Open.Tags.{caused_held}
 use Rattle.tiff_encode.proofs.Open.Kept.{tells_kept, open_kept}
 use Rattle.tiff_encode.proofs.Open.Settings.{fresh, first_test}
-use Rattle.tiff_encode.proofs.WriteOps.{ops_grow}
-use Rattle.tiff_encode.specs.WriteOps.{Appended}
+use Rattle.tiff_value.specs.lemmas.File.WriteOps.{ops_grow}
+use Rattle.tiff_value.specs.WriteOps.{Appended}
 
 -- ---- one more element in a list
 

@@ -11,17 +11,17 @@ use Rattle.tiff_base.specs.declared.tags.Tag.TheVariants as tag
 use Rattle.tiff_base.specs.Tags.{tag_number}
 use Rattle.tiff_value.specs.Data.{Scalars, u16s, formats}
 use Rattle.tiff_page.specs.Counts.{all_chunks}
-use Rattle.tiff_encode.specs.Value.{offset_values}
-use Rattle.tiff_encode.specs.Model.{In, FinishedDirectory, Model, with_directory}
-use Rattle.tiff_encode.specs.WriteOps.{WriteOp, Listed, after_op, standing_fields}
+use Rattle.tiff_value.specs.Fields.{offset_values}
+use Rattle.tiff_value.specs.Model.{In, FinishedDirectory, Model, with_directory}
+use Rattle.tiff_value.specs.WriteOps.{WriteOp, Listed, after_op, standing_fields}
 use Rattle.tiff_encode.specs.Machine.{FileState, OpenDirectory, OpenImage, WriteCall, does, ◌>>=◌}
 use Rattle.tiff_encode.specs.Causes.{end_of, finish_cause}
 use Rattle.tiff_encode.specs.Chunks.{all_samples, image_page, is_left}
 use Rattle.tiff_encode.specs.Calls.{Offsets, links_to, offsets_of, chains, finish, write_tags, extended_by_first, sample_tags, chunk_tags, last_tags, finish_image}
 use Rattle.tiff_encode.specs.Held.{Given, HoldsValues, ExtraGiven, value_in, AreGiven, EachGiven, image_tags, places_in, HasImageTags, IsWholeImage, AreSupplied, RegionsHaveChunks, ImagesShow}
 use Rattle.tiff_encode.specs.Open.{open_tags, TellsOpen, IsOpen, HoldsChunks, RecordsImage, model_by, EndsHeld, GrownEnded, EndedShown, EndsShown}
-use Rattle.tiff_encode.specs.lemmas.Slices.{ok_inj}
-use Rattle.tiff_encode.proofs.WriteOps.{ops_grow}
+use Rattle.tiff_base.specs.lemmas.Slices.{ok_inj}
+use Rattle.tiff_value.specs.lemmas.File.WriteOps.{ops_grow}
 use Rattle.tiff_encode.proofs.Given.{IsLocal, given_changed}
 use Rattle.tiff_encode.proofs.Open.Held.{holds_grown, chunks_grown, set, set_local}
 use Rattle.tiff_encode.proofs.Open.Tags.{both_held, caused_held, tags_adding, tags_held, after, after_local, after_joined}

@@ -8,7 +8,7 @@ use Rattle.tiff_base.specs.declared.tags.FileKind.{FileKind}
 use Rattle.tiff_base.specs.Field.{Field}
 use Rattle.tiff_value.specs.Data.{Scalars}
 use Rattle.tiff_page.specs.Checks.{is_page_tag}
-use Rattle.tiff_encode.specs.Model.{Model, Grows}
+use Rattle.tiff_value.specs.Model.{Model, Grows}
 use Rattle.tiff_encode.specs.Machine.{OpenImage}
 use Rattle.tiff_encode.specs.Held.{Given, HasValues, HoldsAt, HoldsValues}
 use Rattle.tiff_encode.specs.Open.{HoldsChunks, GrownOpen}

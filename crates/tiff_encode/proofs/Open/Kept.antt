@@ -14,7 +14,7 @@ use Rattle.tiff_base.specs.Tags.{tag_number}
 use Rattle.tiff_value.specs.ColorType.{is_packed}
 use Rattle.tiff_value.specs.Data.{Scalars, rationals, units}
 use Rattle.tiff_page.specs.Checks.{is_page_tag}
-use Rattle.tiff_encode.specs.Model.{Model}
+use Rattle.tiff_value.specs.Model.{Model}
 use Rattle.tiff_encode.specs.Machine.{FileState, OpenDirectory, ChunkLayout, Chunk, OpenImage, WriteCall, gives, ◌>>=◌}
 use Rattle.tiff_encode.specs.Drawn.{IsForm}
 use Rattle.tiff_encode.specs.Causes.{resolution_cause, one_resolution_cause, resolution_unit_cause}
@@ -22,8 +22,8 @@ use Rattle.tiff_encode.specs.Calls.{write_tag, write_tag_buf, write_tags, extend
 use Rattle.tiff_encode.specs.Stored.{unpacked_chunk}
 use Rattle.tiff_encode.specs.Held.{Given, HoldsValues, ExtraGiven, value_in, AreGiven, EachGiven, place_tags}
 use Rattle.tiff_encode.specs.Open.{open_tags, TellsOpen, IsOpen, HoldsChunks, RecordsImage, model_by, KeepsOpen, TagsKeepOpen, FieldsKeepOpen, ResolutionsKeepOpen}
-use Rattle.tiff_encode.specs.lemmas.Slices.{ok_inj}
-use Rattle.tiff_encode.proofs.WriteOps.{ops_grow}
+use Rattle.tiff_base.specs.lemmas.Slices.{ok_inj}
+use Rattle.tiff_value.specs.lemmas.File.WriteOps.{ops_grow}
 use Rattle.tiff_encode.proofs.Given.{IsLocal, given_changed}
 use Rattle.tiff_encode.proofs.Open.Held.{chunks_grown, other_held}
 use Rattle.tiff_encode.proofs.Image.Table.{Row, written, tagged}

@@ -14,7 +14,7 @@ use Rattle.tiff_base.specs.declared.tags.Tag.TheVariants as tag
 use Rattle.tiff_base.specs.Tags.{tag_number}
 use Rattle.tiff_value.specs.ColorType.{is_packed}
 use Rattle.tiff_value.specs.Data.{Scalars, u32s, planars, extras}
-use Rattle.tiff_encode.specs.Model.{In, Model}
+use Rattle.tiff_value.specs.Model.{In, Model}
 use Rattle.tiff_encode.specs.Machine.{FileState, OpenDirectory, ChunkLayout, OpenImage, WriteOutcome}
 use Rattle.tiff_encode.specs.Drawn.{IsForm}
 use Rattle.tiff_encode.specs.Chunks.{is_tile, is_begun}

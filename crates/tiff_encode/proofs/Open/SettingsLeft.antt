@@ -2,8 +2,8 @@
 use Rattle.std.proofs.Common.{◌≡◌, ◌^◌, ◌<◌, None, Result, Ok, Err, ap, sym, ◌∙◌, subst}
 use Rattle.tiff_base.specs.declared.error.TiffError.{TiffError}
 use Rattle.tiff_base.specs.Field.{AreEntries}
-use Rattle.tiff_encode.specs.Model.{Model, FileContains}
-use Rattle.tiff_encode.specs.Laws.{OpsFit}
+use Rattle.tiff_value.specs.Model.{Model, FileContains}
+use Rattle.tiff_value.specs.FileLaws.{OpsFit}
 use Rattle.tiff_encode.specs.Machine.{FileState, OpenImage, WriteOutcome}
 use Rattle.tiff_encode.specs.Causes.{end_of}
 use Rattle.tiff_encode.specs.Ends.{Ends}

@@ -13,16 +13,16 @@ use Rattle.tiff_base.specs.Tags.{tag_number}
 use Rattle.tiff_value.specs.Buffer.{BufferRecord}
 use Rattle.tiff_value.specs.Data.{FieldData, Scalars, data_of}
 use Rattle.tiff_page.specs.Checks.{is_page_tag}
-use Rattle.tiff_encode.specs.Model.{In, SuppliedField, Model}
-use Rattle.tiff_encode.specs.WriteOps.{WriteOp, Appended, Supplied, bytes_after, model_after}
-use Rattle.tiff_encode.specs.Value.{is_long, filled_field, field_at}
+use Rattle.tiff_value.specs.Model.{In, SuppliedField, Model}
+use Rattle.tiff_value.specs.WriteOps.{WriteOp, Appended, Supplied, bytes_after, model_after}
+use Rattle.tiff_value.specs.Fields.{is_long, filled_field, field_at}
 use Rattle.tiff_encode.specs.Machine.{FileState, OpenDirectory, WriteCall, gives, by_cause, and_then, ◌>>=◌}
 use Rattle.tiff_encode.specs.Causes.{end_of, write_tag_cause}
 use Rattle.tiff_encode.specs.Calls.{with_field, placed_field, write_entry, write_entry_buf, write_tag, write_tag_buf, write_tags}
 use Rattle.tiff_encode.specs.Held.{Given, HasValues, HoldsValues}
 use Rattle.tiff_encode.specs.Open.{model_by}
-use Rattle.tiff_encode.specs.lemmas.Slices.{ok_inj, length-le}
-use Rattle.tiff_encode.proofs.WriteOps.{model_joined, ops_append, ops_grow}
+use Rattle.tiff_base.specs.lemmas.Slices.{ok_inj, length-le}
+use Rattle.tiff_value.specs.lemmas.File.WriteOps.{model_joined, ops_append, ops_grow}
 use Rattle.tiff_encode.proofs.Joining.{IsAdding, Adds, adding, entry_adds, entry_buf_adds, tag_adds, answers_adding, bind_adding}
 use Rattle.tiff_encode.proofs.Given.{IsLocal}
 use Rattle.tiff_encode.proofs.Open.Held.{holds_grown, set, set_local, set_held, other_held}

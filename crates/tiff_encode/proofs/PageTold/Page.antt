@@ -36,15 +36,15 @@ use Rattle.tiff_ifd.specs.TagLookup.{TagLookup, look_up_in, look_in, find}
 use Rattle.tiff_page.specs.Checks.{is_page_tag, tags_of_pixels, page_of, PassedChecks}
 use Rattle.tiff_page.specs.Page.{PageRecord}
 use Rattle.tiff_page.specs.lemmas.PassedChecks.{page_passed}
-use Rattle.tiff_encode.specs.FileBytes.{offset_len}
-use Rattle.tiff_encode.specs.Value.{offset_values}
-use Rattle.tiff_encode.specs.Model.{In, Model, FileContains}
+use Rattle.tiff_value.specs.FileBytes.{offset_len}
+use Rattle.tiff_value.specs.Fields.{offset_values}
+use Rattle.tiff_value.specs.Model.{In, Model, FileContains}
 use Rattle.tiff_encode.specs.Machine.{Chunk, OpenImage, compression_method}
 use Rattle.tiff_encode.specs.Chunks.{all_samples, shown_page}
 use Rattle.tiff_encode.specs.Calls.{extended_by_first}
 use Rattle.tiff_encode.specs.Held.{Given, HoldsValues, chroma_given, planar_given, ExtraGiven, value_in, EachGiven, image_tags, places_in, HasImageTags, IsWholeImage, PageTold}
 use Rattle.tiff_encode.specs.lemmas.Samples.{some_method}
-use Rattle.tiff_encode.specs.lemmas.Slices.{ok_bind}
+use Rattle.tiff_base.specs.lemmas.Slices.{ok_bind}
 use Rattle.tiff_encode.proofs.Given.{is_one_of, given_at}
 use Rattle.tiff_encode.proofs.PageTold.Tags.{some_found, none_found, list_back, each_below, as_numbers, the_look, numbers_found, nothing_found, short_found, long_found, shorts_found, offsets_found}
 use Rattle.tiff_encode.proofs.PageTold.Values.{AllBelow, joint, are_shorts}

@@ -25,10 +25,10 @@ use Rattle.tiff_ifd.specs.Into.{into_u16, into_u32, into_u64, into_u64_vec, each
 use Rattle.tiff_ifd.specs.Limits.{unlimited}
 use Rattle.tiff_ifd.specs.TagLookup.{TagLookup, if_found, look_up_in, find}
 use Rattle.tiff_page.specs.Checks.{is_page_tag}
-use Rattle.tiff_encode.specs.FileBytes.{offset_len}
-use Rattle.tiff_encode.specs.Value.{offset_values}
-use Rattle.tiff_encode.specs.Model.{In, Model, FileContains}
-use Rattle.tiff_encode.specs.WriteOps.{standing_field, standing_fields}
+use Rattle.tiff_value.specs.FileBytes.{offset_len}
+use Rattle.tiff_value.specs.Fields.{offset_values}
+use Rattle.tiff_value.specs.Model.{In, Model, FileContains}
+use Rattle.tiff_value.specs.WriteOps.{standing_field, standing_fields}
 use Rattle.tiff_encode.specs.Held.{Given, HasValues, HoldsAt, HoldsValues}
 use Rattle.tiff_encode.proofs.PageTold.Values.{get_standing, standing_bytes, AllBelow, joint, AreNumbers, value_read, are_shorts, are_longs, are_long8s}
 

@@ -28,9 +28,9 @@ use Rattle.tiff_ifd.specs.Item.{item, list_item, items}
 use Rattle.tiff_ifd.specs.lemmas.Items.{items-first}
 use Rattle.tiff_ifd.specs.FieldValue.{numbers, value_from, is_allowed, field_value}
 use Rattle.tiff_ifd.specs.Limits.{unlimited}
-use Rattle.tiff_encode.specs.FileBytes.{offset_len}
-use Rattle.tiff_encode.specs.WriteOps.{standing_field, standing_fields}
-use Rattle.tiff_encode.specs.lemmas.Slices.{ok_bind, ok_inj, length-le, number-le}
+use Rattle.tiff_value.specs.FileBytes.{offset_len}
+use Rattle.tiff_value.specs.WriteOps.{standing_field, standing_fields}
+use Rattle.tiff_base.specs.lemmas.Slices.{ok_bind, ok_inj, length-le, number-le}
 
 -- ---- a field in its entry
 

@@ -41,9 +41,9 @@ use Rattle.tiff_page.specs.lemmas.NumberBytes as octets
 use Rattle.tiff_encode.specs.Shows.{Image, Shows}
 use Rattle.tiff_encode.specs.ReadsBack.{samples_shown, HasSamplesOf, IsReadable, LetsPass, ReadsShown, ReadsBack}
 use Rattle.tiff_encode.proofs.Shown.Whole.{whole_shown}
-use Rattle.tiff_encode.specs.lemmas.Slices.{ok_inj}
-use Rattle.tiff_encode.proofs.ReadsBack.Numbers.{some_right, all_are, sample_within, column_within, row_within, numbers_are}
-use Rattle.tiff_encode.proofs.ReadsBack.Page.{IsListed, page_listed}
+use Rattle.tiff_base.specs.lemmas.Slices.{ok_inj}
+use Rattle.tiff_page.specs.lemmas.ShownNumbers.{some_right, all_are, sample_within, column_within, row_within, numbers_are}
+use Rattle.tiff_page.specs.lemmas.ListedChunks.{IsListed, page_listed}
 
 -- ---- properties of a page
 

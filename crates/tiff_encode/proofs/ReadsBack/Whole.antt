@@ -25,7 +25,7 @@ use Rattle.tiff_encode.proofs.ReadsBack.Entries.{reads_shown}
 use Rattle.tiff_encode.proofs.ReadsBack.Written.{depth_there, shown_in_order}
 use Rattle.tiff_encode.specs.lemmas.Shown.Color.{IsOf, is_of_family, IsColored, colored}
 use Rattle.tiff_encode.proofs.Shown.Packed.{columns_shown, one_sample}
-use Rattle.tiff_encode.specs.lemmas.Slices.{ok_inj}
+use Rattle.tiff_base.specs.lemmas.Slices.{ok_inj}
 
 -- ---- a color with all samples
 

@@ -8,7 +8,7 @@ use Rattle.std.specs.declared.alloc.Global.{Global}
 use Rattle.tiff_base.specs.declared.tags.FileKind.{FileKind}
 use Rattle.tiff_encode.specs.declared.encoder.script.Job.{Job}
 use Rattle.tiff_encode.specs.declared.encoder.script.JobReply.{JobReply}
-use Rattle.tiff_encode.specs.Model.{IsLink, header_model}
+use Rattle.tiff_value.specs.Model.{IsLink, header_model}
 use Rattle.tiff_encode.specs.Machine.{FileState, begun_file}
 use Rattle.tiff_encode.specs.Shows.{LeavesHeader}
 use Rattle.tiff_encode.specs.Jobs.{Run, new_run, JobRan, JobsRun, LeavesJobs, RunShows}
@@ -17,7 +17,7 @@ use Rattle.tiff_encode.specs.Running.{step_count, JobsMove, IsEmptyWithRoom, Are
 use Rattle.tiff_encode.proofs.PageTold.Page.{page_told}
 use Rattle.tiff_encode.proofs.Shown.Images.{images_show_by}
 use Rattle.tiff_encode.proofs.Open.Ends.{ended_shown_by}
-use Rattle.tiff_encode.specs.lemmas.Slices.{some_inj, none_some}
+use Rattle.tiff_base.specs.lemmas.Slices.{some_inj, none_some}
 
 -- ---- one more job
 

@@ -21,9 +21,9 @@ use Rattle.tiff_encode.specs.declared.encoder.script.Job.{Job}
 use Rattle.tiff_encode.specs.declared.encoder.script.Job.TheVariants as job
 use Rattle.tiff_encode.specs.declared.encoder.script.JobReply.{JobReply}
 use Rattle.tiff_encode.specs.Appending.{Continues, LinksFrom, continued_file}
-use Rattle.tiff_encode.specs.FileBytes.{offset_len}
-use Rattle.tiff_encode.specs.Model.{In, IsLink, Model, header_model}
-use Rattle.tiff_encode.specs.WriteOps.{WriteOp, Appended, Supplied, Listed, Linked, all_appended, bytes_after}
+use Rattle.tiff_value.specs.FileBytes.{offset_len}
+use Rattle.tiff_value.specs.Model.{In, IsLink, Model, header_model}
+use Rattle.tiff_value.specs.WriteOps.{WriteOp, Appended, Supplied, Listed, Linked, all_appended, bytes_after}
 use Rattle.tiff_encode.specs.Machine.{FileState, OpenDirectory, OpenImage, WriteOutcome, WriteCall, does, by_cause, and_then, ◌>>=◌}
 use Rattle.tiff_encode.specs.Chunks.{parts_left}
 use Rattle.tiff_encode.specs.Causes.{end_of, finish_cause, write_image_data_cause}
@@ -34,7 +34,7 @@ use Rattle.tiff_encode.specs.Jobs.{FileAndModel, Drawn, Run, FinishedImage, IsDo
 use Rattle.tiff_encode.specs.JobsBehind.{JobsGoOn, run_behind}
 use Rattle.tiff_encode.specs.Running.{JobsMove}
 use Rattle.tiff_encode.specs.Stepping.{IsSound}
-use Rattle.tiff_encode.specs.lemmas.Slices.{ok_inj, some_inj, none_some, length_put, length-le}
+use Rattle.tiff_base.specs.lemmas.Slices.{ok_inj, some_inj, none_some, length_put, length-le}
 use Rattle.tiff_encode.specs.lemmas.FormerBytes.{begun, cut, torn, written}
 use Rattle.tiff_encode.proofs.Leaving.{ok_err}
 use Rattle.tiff_encode.proofs.Joining.{IsAdding}

@@ -5,8 +5,8 @@ use Rattle.std.proofs.Common.{◌≡◌, ℕ, ◌^◌, ◌<◌, inl, inr, Bool, 
 use Rattle.std.specs.FinMap.{len}
 use Rattle.tiff_base.specs.declared.error.TiffError.{TiffError}
 use Rattle.tiff_base.specs.Field.{AreEntries}
-use Rattle.tiff_encode.specs.Model.{Model, IsLink, FileContains, Grows, with_link}
-use Rattle.tiff_encode.specs.WriteOps.{model_after}
+use Rattle.tiff_value.specs.Model.{Model, IsLink, FileContains, Grows, with_link}
+use Rattle.tiff_value.specs.WriteOps.{model_after}
 use Rattle.tiff_encode.specs.Machine.{FileState, OpenDirectory, OpenImage, WriteOutcome, WriteCall}
 use Rattle.tiff_encode.specs.Causes.{end_of}
 use Rattle.tiff_encode.specs.Calls.{Offsets, finish, finish_image}
@@ -17,9 +17,9 @@ use Rattle.tiff_encode.specs.Open.{model_by}
 use Rattle.tiff_encode.specs.declared.encoder.script.EndReply.TheVariants as last
 use Rattle.tiff_encode.specs.Jobs.{FileAndModel, IsDone, Refuses, FinishesWith, FinishesSilently}
 use Rattle.tiff_encode.specs.Stepping.{StandsIfKnown, HasLink, EndMoves}
-use Rattle.tiff_encode.specs.lemmas.Slices.{some_inj, none_some}
+use Rattle.tiff_base.specs.lemmas.Slices.{some_inj, none_some}
 use Rattle.tiff_encode.proofs.Moving.{grows_here}
-use Rattle.tiff_encode.proofs.WriteOps.{ops_grow, link_kept}
+use Rattle.tiff_value.specs.lemmas.File.WriteOps.{ops_grow, link_kept}
 use Rattle.tiff_encode.proofs.Leaving.{begun_leaves, torn_leaves, entries_fit, finish_plain}
 use Rattle.tiff_encode.proofs.Guarding.{finish_left}
 use Rattle.tiff_encode.proofs.Image.Fits.{finish_image_fits}

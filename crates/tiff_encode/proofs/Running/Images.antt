@@ -6,7 +6,7 @@ use Rattle.tiff_base.specs.declared.error.TiffError.{TiffError}
 use Rattle.tiff_base.specs.Field.{AreEntries}
 use Rattle.tiff_encode.specs.declared.encoder.script.EndReply.{EndReply}
 use Rattle.tiff_encode.specs.declared.encoder.script.EndReply.TheVariants as last
-use Rattle.tiff_encode.specs.Model.{Model}
+use Rattle.tiff_value.specs.Model.{Model}
 use Rattle.tiff_encode.specs.Machine.{FileState, OpenImage, WriteOutcome}
 use Rattle.tiff_encode.specs.Chunks.{is_left, parts_left}
 use Rattle.tiff_encode.specs.Causes.{write_image_data_cause}
@@ -20,7 +20,7 @@ use Rattle.tiff_encode.specs.ImageData as data_
 use Rattle.tiff_encode.specs.Jobs.{FileAndModel, FinishesSilently, EndsWithin, WritesData, JobWritesDataBy, WritesDataIfFound}
 use Rattle.tiff_encode.specs.Stepping.{EndMoves, IsHeld}
 use Rattle.tiff_encode.specs.JobEnding.{DataHeld}
-use Rattle.tiff_encode.specs.lemmas.Slices.{some_inj, none_some}
+use Rattle.tiff_base.specs.lemmas.Slices.{some_inj, none_some}
 use Rattle.tiff_encode.proofs.Open.Ends.{ends_held}
 use Rattle.tiff_encode.proofs.Data.Calls.{behind_model}
 use Rattle.tiff_encode.proofs.Data.Chunks.{chunks_adding, chunks_done, data_chunks, data_patches}

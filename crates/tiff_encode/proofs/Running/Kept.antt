@@ -7,13 +7,13 @@ use Rattle.tiff_encode.specs.declared.encoder.script.DirectoryStep.{DirectorySte
 use Rattle.tiff_encode.specs.declared.encoder.script.DirectoryStep.TheVariants as step
 use Rattle.tiff_encode.specs.declared.encoder.script.StepReply.{StepReply}
 use Rattle.tiff_encode.specs.declared.encoder.script.StepReply.TheVariants as reply
-use Rattle.tiff_encode.specs.Laws.{AreAppending}
+use Rattle.tiff_value.specs.FileLaws.{AreAppending}
 use Rattle.tiff_encode.specs.Machine.{FileState, OpenDirectory, WriteOutcome, WriteCall, gives}
-use Rattle.tiff_encode.specs.WriteOps.{all_appended}
+use Rattle.tiff_value.specs.WriteOps.{all_appended}
 use Rattle.tiff_encode.specs.Calls.{with_field, write_entry, write_entry_buf, write_entry_bytes, write_tag, write_tag_buf, write_data, write_data_buf, extend_from}
 use Rattle.tiff_encode.specs.JobValues.{value_data, buffer_in}
 use Rattle.tiff_encode.specs.Jobs.{FileAndModel, IsDone, Refuses, Changes, Replies, ExtendStep, DirectoryStepped, AllStepped}
-use Rattle.tiff_encode.specs.lemmas.Slices.{ok_inj}
+use Rattle.tiff_base.specs.lemmas.Slices.{ok_inj}
 use Rattle.tiff_encode.proofs.Joining.{IsAdding, Adds, adding, ends_torn, entry_adds, entry_buf_adds, entry_bytes_adds, tag_adds, tag_buf_adds, data_adds, data_buf_adds}
 use Rattle.tiff_encode.proofs.Data.Calls.{bind_answered}
 use Rattle.tiff_encode.proofs.Data.Chunks.{tag_placed}

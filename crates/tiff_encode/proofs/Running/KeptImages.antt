@@ -15,7 +15,7 @@ use Rattle.tiff_encode.specs.JobValues.{cut_to}
 use Rattle.tiff_encode.specs.Jobs.{FileAndModel, Drawn, IsDone, Changes, ImageStepped, AllStepped, ResolvesInPart, Resolves, StoreStep, StoresBy}
 use Rattle.tiff_encode.proofs.Image.StepsStored.{StoresIfFound, IsStoring, strips_store, chunks_store}
 use Rattle.tiff_encode.proofs.Image.Table.{Row, written, tagged, Setting, Extra, Rows, Sides, Planes, Both, Across, Down, Measure, call_of, row, called, row_adding, setting_adding}
-use Rattle.tiff_encode.specs.lemmas.Slices.{ok_inj}
+use Rattle.tiff_base.specs.lemmas.Slices.{ok_inj}
 use Rattle.tiff_encode.proofs.Data.Calls.{bind_answered, cause_answered}
 use Rattle.tiff_encode.proofs.Data.Chunks.{tags_placed}
 use Rattle.tiff_encode.proofs.Running.Kept.{IsSame, IsKept, same_on, done_same, refused_same, nothing_kept, changed_kept, all_kept, step_kept}

@@ -21,8 +21,8 @@ use Rattle.tiff_encode.specs.declared.encoder.script.Job.{Job}
 use Rattle.tiff_encode.specs.declared.encoder.script.Job.TheVariants as job
 use Rattle.tiff_encode.specs.declared.encoder.script.JobReply.{JobReply}
 use Rattle.tiff_encode.specs.declared.encoder.settings.Compression.{Compression}
-use Rattle.tiff_encode.specs.Model.{In, IsLink, Model, FileContains, Grows}
-use Rattle.tiff_encode.specs.WriteOps.{model_after}
+use Rattle.tiff_value.specs.Model.{In, IsLink, Model, FileContains, Grows}
+use Rattle.tiff_value.specs.WriteOps.{model_after}
 use Rattle.tiff_encode.specs.Machine.{FileState, OpenDirectory, OpenImage, WriteOutcome, WriteCall, gives, by_cause, ◌>>=◌}
 use Rattle.tiff_encode.specs.Causes.{begin_cause, write_image_data_cause}
 use Rattle.tiff_encode.specs.Calls as calls
@@ -36,8 +36,8 @@ use Rattle.tiff_encode.specs.JobValues.{cut_to}
 use Rattle.tiff_encode.specs.Jobs.{FileAndModel, IsDone, Refuses, Drawn, Run, FinishedImage, DirectoryStepped, AllStepped, FinishesSilently, DirectoryEnds, ImageEnds, EndsWithin, JobWritesDataBy, DirectoryRan, DirectoryRanBy, ImageRan, JobRan, IsSet, run_after_job, with_parent, parent_of, named_parent, open_directory, ended_samples, images_at, job_images, are_apart, offsets_in, IsRefusedAtOnce, JobIsNotBegun}
 use Rattle.tiff_encode.specs.Stepping.{StandsIfKnown, HasLink, Moves, StepsDraw, EndMoves, ImageHeld, IsHeld, IsSound, JobMoves, offsets_answered}
 use Rattle.tiff_encode.specs.Running.{NamesLink, link_in, linked_from, DirectoryGoes, DirectoryGoesOn, ImageGoes, ImageGoesOn, DirectoryRunsOn, ImageRunsOn}
-use Rattle.tiff_encode.specs.lemmas.Slices.{ok_inj, some_inj, none_some}
-use Rattle.tiff_encode.proofs.WriteOps.{link_kept}
+use Rattle.tiff_base.specs.lemmas.Slices.{ok_inj, some_inj, none_some}
+use Rattle.tiff_value.specs.lemmas.File.WriteOps.{link_kept}
 use Rattle.tiff_encode.proofs.Joining.{IsAdding, adding, begin_adds, extra_adds}
 use Rattle.tiff_encode.proofs.Moving.{grows_here, grows_on, Led, seen}
 use Rattle.tiff_encode.proofs.Open.Begun.{begins_open}

@@ -30,9 +30,9 @@ use Rattle.tiff_encode.specs.declared.encoder.settings.Compression.TheVariants.{
 use Rattle.tiff_encode.specs.Machine.{OpenImage, compression_method}
 use Rattle.tiff_encode.specs.Chunks.{image_page, row_samples}
 use Rattle.tiff_encode.specs.Stored.{IsCompressed, unpacked_chunk}
-use Rattle.tiff_encode.specs.lemmas.Slices.{is_exact}
+use Rattle.tiff_base.specs.lemmas.Slices.{is_exact}
 use Rattle.tiff_encode.specs.lemmas.Shown.Color.{IsColored}
-use Rattle.tiff_encode.specs.lemmas.Shown.Bytes.{number_found, length_written}
+use Rattle.tiff_page.specs.lemmas.WrittenNumbers.{number_found, length_written}
 use Rattle.tiff_encode.proofs.Shown.Undone.{summed, kept_small}
 
 -- bytes stored in a file decode to data that begin with the given bytes

@@ -16,16 +16,16 @@ use Rattle.tiff_base.specs.declared.tags.SampleFormat.TheVariants.{Uint}
 use Rattle.tiff_value.specs.ColorType.{sample_number}
 use Rattle.tiff_value.specs.ColorTypes.{color_type, inner_size, inner_type}
 use Rattle.tiff_encode.specs.Causes.{end_of}
-use Rattle.tiff_encode.specs.Model.{Model, IsLink, header_link, header_model}
+use Rattle.tiff_value.specs.Model.{Model, IsLink, header_link, header_model}
 use Rattle.tiff_encode.specs.declared.encoder.settings.Compression.TheVariants.{Uncompressed}
 use Rattle.tiff_encode.specs.Machine.{FileState, OpenDirectory, OpenImage}
 use Rattle.tiff_encode.specs.Calls.{image_in}
 use Rattle.tiff_encode.specs.Shows.{Shows, ShowsGray, gray_page, gray_image}
 use Rattle.tiff_encode.specs.ImageData.{image_of_samples, LeavesImage, FirstShown, GrayShown}
-use Rattle.tiff_encode.specs.lemmas.Slices.{ok_inj}
-use Rattle.tiff_encode.specs.lemmas.Header.{only_link}
+use Rattle.tiff_base.specs.lemmas.Slices.{ok_inj}
+use Rattle.tiff_value.specs.lemmas.File.Header.{only_link}
 use Rattle.tiff_encode.proofs.Data.Begun.{new_is}
-use Rattle.tiff_encode.proofs.Shown.FirstPage.{first_told}
+use Rattle.tiff_value.specs.lemmas.File.FirstPage.{first_told}
 use Rattle.tiff_encode.specs.lemmas.Shown.Parts.{gray_page_is, gray_sample_is}
 
 pub first_shown : FirstShown

@@ -2,7 +2,7 @@
 use Rattle.std.proofs.Common.{ℕ, List, refl}
 use Rattle.std.specs.Prelude.{slice_index}
 use Rattle.tiff_base.specs.declared.tags.FileKind.{FileKind}
-use Rattle.tiff_encode.specs.Model.{Model, FileContains}
+use Rattle.tiff_value.specs.Model.{Model, FileContains}
 use Rattle.tiff_encode.specs.Machine.{OpenImage}
 use Rattle.tiff_encode.specs.Chunks.{image_page, shown_page, sample_in}
 use Rattle.tiff_encode.specs.Held.{HasChunks, RegionsHaveChunks, ShowsSamples, PageTold, ImagesShow}

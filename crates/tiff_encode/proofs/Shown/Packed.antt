@@ -34,7 +34,7 @@ use Rattle.tiff_encode.specs.Chunks.{all_samples, subsampling_of, image_page, pi
 use Rattle.tiff_encode.specs.Shows.{shown_columns, shown_at}
 use Rattle.tiff_encode.specs.Held.{ShowsSamples}
 use Rattle.tiff_encode.specs.lemmas.ImageState.{one_part}
-use Rattle.tiff_encode.specs.lemmas.Slices.{ok_inj}
+use Rattle.tiff_base.specs.lemmas.Slices.{ok_inj}
 use Rattle.tiff_encode.proofs.Columns.{columns_plain, columns_packed}
 use Rattle.tiff_encode.specs.lemmas.Shown.Color.{IsOf, first_of}
 

@@ -5,10 +5,10 @@ use Rattle.std.proofs.Math.Seq.{take-append-add, drop-append-add}
 use Rattle.tiff_base.specs.declared.tags.FileKind.{FileKind}
 use Rattle.tiff_base.specs.Number.{le}
 use Rattle.tiff_base.specs.SourceAndSink.{put}
-use Rattle.tiff_encode.specs.FileBytes.{offset_len, directory_bytes}
-use Rattle.tiff_encode.specs.WriteOps.{WriteOp, Appended, Supplied, Listed, Linked, bytes_after}
+use Rattle.tiff_value.specs.FileBytes.{offset_len, directory_bytes}
+use Rattle.tiff_value.specs.WriteOps.{WriteOp, Appended, Supplied, Listed, Linked, bytes_after}
 use Rattle.tiff_encode.specs.Appending.{Continues, LinksFrom, FormerBytesStay}
-use Rattle.tiff_encode.specs.lemmas.Slices.{length_put, length-le}
+use Rattle.tiff_base.specs.lemmas.Slices.{length_put, length-le}
 
 -- bytes that are written behind the first bytes leave these
 pub put_past : (front more : List ℕ) (k : ℕ) (xs : List ℕ)

@@ -14,11 +14,11 @@ use Rattle.tiff_base.specs.Number.{number, number_at}
 use Rattle.tiff_base.specs.Field.{DirectoryRecord}
 use Rattle.tiff_base.specs.Directory.{count_width, offset_width, link, directory_at}
 use Rattle.tiff_value.specs.Written.{Written, new_writer}
-use Rattle.tiff_encode.specs.FileBytes.{offset_len}
-use Rattle.tiff_encode.specs.Model.{In, FinishedDirectory, ByteRegion, BytesAreApart, header_link, own_link, IsLink, IsClear, body_len, whole_len}
+use Rattle.tiff_value.specs.FileBytes.{offset_len}
+use Rattle.tiff_value.specs.Model.{In, FinishedDirectory, ByteRegion, BytesAreApart, header_link, own_link, IsLink, IsClear, body_len, whole_len}
 use Rattle.tiff_encode.specs.Appending.{header_end, EndsInHeader, EndsIn, bytes_between, header_file_model, former_model, GoesOnBehind, Continues}
-use Rattle.tiff_encode.specs.lemmas.Slices.{exact, is_exact, exact_append, exact_put_before, exact_put_behind}
-use Rattle.tiff_encode.specs.lemmas.Kept.{directory_parts}
+use Rattle.tiff_base.specs.lemmas.Slices.{exact, is_exact, exact_append, exact_put_before, exact_put_behind}
+use Rattle.tiff_value.specs.lemmas.File.Kept.{directory_parts}
 
 pub some_offset : (kind : FileKind) → 0 < offset_len kind
 some_offset Classic = lit< tt

@@ -1,5 +1,5 @@
 -- Samples that are cut out of lent bytes.
-use Rattle.std.proofs.Common.{◌≡◌, ℕ, zero, suc, ◌+◌, ◌*◌, ◌/◌, ◌%◌, ◌^◌, ◌<◌, ◌≤◌, List, [], ◌∷◌, ◌++◌, map, length, take, drop, get_or, Fits, w8, inl, inr, refl, ap, sym, ◌∙◌, arith}
+use Rattle.std.proofs.Common.{◌≡◌, ℕ, zero, suc, ◌+◌, ◌*◌, ◌/◌, ◌%◌, ◌^◌, ◌<◌, ◌≤◌, List, [], ◌∷◌, ◌++◌, map, length, take, drop, get_or, Fits, w8, refl, ap, sym, ◌∙◌, arith}
 use Rattle.std.proofs.lemmas.Nat.{row_fits, div-add-mod'}
 use Rattle.std.proofs.lemmas.List.{drop-drop, map-append}
 use Rattle.std.proofs.lemmas.List.FromFn.{length-map-range_with_len, map-range_with_len_more}
@@ -75,17 +75,6 @@ octets_are size bytes numbers is e fit =
     e ∙ sym (low_bytes bytes (λ i. let f = fit i in omega (arith, f)))
     ∙ ap (cut_to 1) (sym (numbers_are bytes))
     ∙ ap (λ (k : ℕ). cut_to k (numbers_in 1 bytes)) (sym is)
-
--- A type whose values have another number of bytes than 1, 2 and 4 has values of 8 bytes.
-pub eight_left : (type : «Type») → (type_size type ≡ 1 → ⊥) → (type_size type ≡ 2 → ⊥)
-    → (type_size type ≡ 4 → ⊥) → type_size type ≡ 8
-eight_left type a b c = elim (size_of_type type) as (λ _. type_size type ≡ 8) [
-  | inl e ↦ absurd (a e)
-  | inr x ↦ elim x as (λ _. type_size type ≡ 8) [
-    | inl e ↦ absurd (b e)
-    | inr y ↦ elim y as (λ _. type_size type ≡ 8) [ inl e ↦ absurd (c e) | inr e ↦ e ]
-  ]
-]
 
 -- Values are no more than their bytes.
 pub no_more : (type : «Type») (bytes : List ℕ)

@@ -18,11 +18,11 @@ use Rattle.tiff_base.specs.Number.{number_at}
 use Rattle.tiff_ifd.specs.Chain.{link_from, unless_met, IsChain, Chain}
 use Rattle.tiff_ifd.specs.lemmas.Chain.{the_chain, one_chain}
 use Rattle.tiff_encode.specs.Appending.{Continues}
-use Rattle.tiff_encode.specs.FileBytes.{offset_len, count_len}
-use Rattle.tiff_encode.specs.Model.{IsClear, header_link}
+use Rattle.tiff_value.specs.FileBytes.{offset_len, count_len}
+use Rattle.tiff_value.specs.Model.{IsClear, header_link}
 use Rattle.tiff_encode.specs.LongerChain.{chain_behind, link_offset_at, link_behind, unless_cut, IsReadOnce, LinkBehind, ChainGoesOn}
-use Rattle.tiff_encode.specs.lemmas.Slices.{ok_bind, ok_inj, some_inj, none_some, number_kept}
-use Rattle.tiff_encode.specs.lemmas.Kept.{directory_from}
+use Rattle.tiff_base.specs.lemmas.Slices.{ok_bind, ok_inj, some_inj, none_some, number_kept}
+use Rattle.tiff_value.specs.lemmas.File.Kept.{directory_from}
 use Rattle.tiff_encode.specs.lemmas.GoingOn.{some_offset, number_within, bytes_stay}
 
 abbrev Link : Type 0

@@ -17,8 +17,8 @@ use Rattle.tiff_page.specs.lemmas.Rows.{bytes_of_numbers, each_same, number_lt, 
 use Rattle.tiff_encode.specs.ImageData.{AreNumbers}
 use Rattle.tiff_encode.specs.lemmas.Data.Cut.{each_of}
 use Rattle.tiff_encode.specs.lemmas.Samples.{some_bytes}
-use Rattle.tiff_encode.specs.lemmas.Shown.Bytes.{length_written, stands_there}
-use Rattle.tiff_encode.specs.lemmas.Slices.{length-le}
+use Rattle.tiff_page.specs.lemmas.WrittenNumbers.{length_written, stands_there}
+use Rattle.tiff_base.specs.lemmas.Slices.{length-le}
 
 -- ---- how many numbers
 

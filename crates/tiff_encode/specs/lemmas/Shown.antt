@@ -1,4 +1,3 @@
-pub mod Bytes
 pub mod Color
 pub mod Offsets
 pub mod Parts

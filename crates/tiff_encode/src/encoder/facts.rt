@@ -1,5 +1,6 @@
-//! What is true of every encoder, directory and image. Each function does nothing: a caller calls it
-//! where its proof needs the fact. A use of a field opens a value, whose invariant says the rest.
+//! What is true of every encoder, directory and image. Each function does nothing: a caller calls
+//! it where its proof needs the fact. A use of a field opens a value, whose invariant says the
+//! rest.
 
 ghost use Rattle.std.specs.Prelude.{◌≡◌, ◌^◌, ◌<◌, None};
 ghost use Rattle.std.specs.FinMap as map;

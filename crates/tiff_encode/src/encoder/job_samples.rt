@@ -226,7 +226,8 @@ impl<'a> JobSamples<'a> {
         }
     }
 
-    /// Returns the lent bytes, if they are values of `size` bytes. Returns `None` for other samples.
+    /// Returns the lent bytes, if they are values of `size` bytes. Returns `None` for other
+    /// samples.
     pub(crate) fn lent(&self, size: usize) -> Option<&[u8]>
         ensures numbers { IfSome result (λ bytes. self.now ≡ numbers_in size bytes.now) }
         ensures whole { IfSome result (λ bytes. length bytes.now % size ≡ 0) }

@@ -11,7 +11,7 @@ ghost use Rattle.tiff_base.specs.declared.error.TiffError.TheVariants.{IntSizeEr
 ghost use Rattle.tiff_encode.specs.Calls.{new_offset};
 ghost use Rattle.tiff_encode.specs.Causes.{is_past, is_past_count};
 ghost use Rattle.tiff_base.specs.Types.{type_size};
-ghost use Rattle.tiff_encode.specs.FileBytes.{count_len, greatest_offset, offset_len};
+ghost use Rattle.tiff_value.specs.FileBytes.{count_len, greatest_offset, offset_len};
 ghost use Rattle.tiff_encode.specs.Kind.{WritesHeader, WritesWithin};
 
 use std::alloc::AllocError;

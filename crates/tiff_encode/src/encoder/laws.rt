@@ -11,7 +11,7 @@ ghost use Rattle.tiff_encode.specs.AppendLaws.{DirectoryCallsAppend, ImageCallsA
 ghost use Rattle.tiff_encode.specs.FormerPages.{FormerPagesStay, FormerSamplesStay};
 ghost use Rattle.tiff_encode.specs.JobsBehind.{JobsGoOn};
 ghost use Rattle.tiff_encode.specs.Held.{ChunksShow, ImagesShow, PageTold};
-ghost use Rattle.tiff_encode.specs.Laws.{HeaderStands, KeptByAppending, KeptByPatching, KeptByTearing, GrownByRegion, GrownByInline, GrownByPlaced, GrownByListing, FinishStep, OpsStand, OpsGrow, OpsBegun, OpsTorn, OpsJoin, OpsAppend, FirstTold, ModelsAgree};
+ghost use Rattle.tiff_value.specs.FileLaws.{HeaderStands, KeptByAppending, KeptByPatching, KeptByTearing, GrownByRegion, GrownByInline, GrownByPlaced, GrownByListing, FinishStep, OpsStand, OpsGrow, OpsBegun, OpsTorn, OpsJoin, OpsAppend, FirstTold, ModelsAgree};
 ghost use Rattle.tiff_encode.specs.LongerChain.{ChainGoesOn, LastLinkEnds, PagesGoOn};
 ghost use Rattle.tiff_encode.specs.RunLaws.{OffsetsAgree, OneStep, OneStored};
 ghost use Rattle.tiff_encode.specs.CallLaws.{PlacedFits, FinishFits};

@@ -3,8 +3,8 @@
 ghost use Rattle.std.specs.Prelude.{◌≡◌, ◌≤◌, length};
 ghost use Rattle.tiff_encode.specs.Causes.{is_past};
 ghost use Rattle.tiff_encode.specs.Placing.{field_test, Checks};
-ghost use Rattle.tiff_encode.specs.Value.{filled_field};
-ghost use Rattle.tiff_encode.specs.FileBytes.{offset_len};
+ghost use Rattle.tiff_value.specs.Fields.{filled_field};
+ghost use Rattle.tiff_value.specs.FileBytes.{offset_len};
 
 use tiff_base::error::{TiffError, TiffResult};
 use tiff_base::tags::FileKind;
@@ -45,7 +45,7 @@ pub fn check_field(kind: FileKind, end: u64, count: u64, len: usize) -> TiffResu
 }
 
 /// Returns the 8 bytes of a value field that contains these bytes, filled with zeros at the end.
-#[tactic(auto, using(crate::proofs::Listing::filled_whole))]
+#[tactic(auto, using(tiff_value::specs::lemmas::File::Listing::filled_whole))]
 pub fn fill(bytes: &[u8]) -> [u8; 8]
     requires { length bytes.now ≤ 8 }
     ensures { result ≡ filled_field bytes.now }

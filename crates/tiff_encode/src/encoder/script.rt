@@ -7,7 +7,6 @@ ghost use Rattle.tiff_encode.specs.Running.{AreRooms, JobsMove, RunsJobsIn, step
 
 use crate::encoder::TiffEncoder;
 pub use crate::encoder::job_samples::{CutSamples, JobSamples};
-use crate::encoder::jobs::directory_steps::put;
 use crate::encoder::jobs::run_job;
 use crate::encoder::kind::TiffKind;
 use crate::encoder::settings::Compression;
@@ -55,6 +54,13 @@ pub struct JobBuffer {
     pub data_type: Type,
     pub order: ByteOrder,
     pub bytes: Vec<u8>,
+}
+
+// What a step sets a tag to: a value, or the values of a buffer.
+#[derive(Clone, Copy)]
+pub(crate) enum JobField<'a> {
+    Value(&'a JobValue),
+    Buffer(&'a JobBuffer),
 }
 
 /// A call of an open directory.
@@ -234,7 +240,7 @@ fn run_all<W: Sink, K: TiffKind>(
     for job in jobs {
         let room = take_last(rooms);
         let reply = run_job(encoder, job, &replies[start..], room);
-        put(replies, reply);
+        replies.push_reserved(reply);
     }
 }
 

@@ -8,7 +8,7 @@ use Rattle.tiff.specs.Model.{IsLink, FileContains, header_model}
 use Rattle.tiff_base.specs.declared.tags.FileKind.TheVariants.{Classic}
 use Rattle.tiff_base.specs.Types.{type_size}
 use Rattle.tiff_value.specs.ColorType.{columns_of, sample_number}
-use Rattle.tiff_encode.specs.Model.{header_link}
+use Rattle.tiff_value.specs.Model.{header_link}
 use Rattle.tiff.specs.lemmas.Samples.{are_numbers}
 use Rattle.tiff.proofs.Gray.{header_chain}
 use Rattle.tiff_uses.specs.ReadBack.{ComesBack}

@@ -1,11 +1,7 @@
 //! The bytes of a chunk of samples: appended to a list, written without a list, or packed.
 
-ghost use Rattle.std.specs.Prelude.{◌≡◌, ◌<◌, ◌≤◌, ◌%◌, ◌^◌, ◌++◌, [], false, length, map, MatchResult};
-ghost use Rattle.std.specs.List.{flat_map};
-ghost use Rattle.tiff_base.specs.Number.{le};
-ghost use Rattle.tiff_base.specs.Types.{type_size};
-ghost use Rattle.tiff_value.specs.ColorType.{sample_number};
-ghost use Rattle.tiff_value.specs.Differences.{differences};
+ghost use Rattle.std.specs.Prelude.{◌≡◌, ◌<◌, ◌≤◌, ◌%◌, ◌++◌, [], length, MatchResult};
+ghost use Rattle.tiff_value.specs.Predicted.{predicted_bytes, row_bytes};
 ghost use Rattle.tiff_value.specs.Packed.{ArePackedRows, IsPacked};
 ghost use Rattle.tiff_value.specs.Written.{WritesCounted};
 
@@ -16,31 +12,35 @@ use tiff_base::error::{TiffError, TiffResult};
 use tiff_base::io::Sink;
 use tiff_base::tags::Predictor;
 
-/// Appends the bytes of a chunk before compression. The samples are rows of `row` samples, with
-/// `stride` samples a pixel. With `Predictor::Horizontal` each row is stored as differences (TIFF
-/// 6.0 section 14), else as it is. The least significant byte of each number comes first. The only
-/// error is `OutOfMemory`.
-pub fn push_chunk<T: Sample>(
-    samples: &[T],
-    predictor: Predictor,
-    row: usize,
-    stride: usize,
-    out: &mut Vec<u8>,
-) -> TiffResult<()>
-    requires stride { (0 < stride) × (stride ≤ row) }
-    requires whole { length samples.now % row ≡ 0 }
+/// Rows of samples, and how they are stored.
+#[derive(Clone, Copy)]
+pub struct SampleRows<'a, T: Sample> {
+    pub samples: &'a [T],
+    /// With `Predictor::Horizontal` each row is stored as differences (TIFF 6.0 section 14), else
+    /// as it is.
+    pub predictor: Predictor,
+    /// The number of samples of a row.
+    pub row: usize,
+    /// The number of samples of a pixel.
+    pub stride: usize,
+}
+
+/// Appends the bytes of rows before compression. The least significant byte of each number comes
+/// first. The only error is `OutOfMemory`.
+pub fn push_chunk<T: Sample>(rows: SampleRows<'_, T>, out: &mut Vec<u8>) -> TiffResult<()>
+    requires stride { (0 < rows.stride) × (rows.stride ≤ rows.row) }
+    requires whole { length rows.samples.now % rows.row ≡ 0 }
     ensures { MatchResult result
-        (λ _. out.new.items ≡ out.old.items ++ flat_map (le (type_size T.value_type))
-        (differences predictor (256 ^ type_size T.value_type) row stride
-        (map (sample_number (type_size T.value_type) T.bits) samples.now)))
+        (λ _. out.new.items ≡ out.old.items
+        ++ row_bytes T.value_type T.bits rows.entry)
         (λ e. e ≡ TiffError.OutOfMemory) }
 {
     let size = usize::from(T::BYTE_LEN);
     // No memory has `usize::MAX` bytes: a product beyond it is refused as this one.
-    out.reserve(samples.len().saturating_mul(size))?;
-    match predictor {
-        Predictor::Horizontal => push_rows(samples, row, stride, out),
-        _ => T::push_all(samples, out),
+    out.reserve(rows.samples.len().saturating_mul(size))?;
+    match rows.predictor {
+        Predictor::Horizontal => push_rows(rows.samples, rows.row, rows.stride, out),
+        _ => T::push_all(rows.samples, out),
     }
 }
 
@@ -50,20 +50,13 @@ pub fn push_chunk<T: Sample>(
 /// part of the bytes, from the front, is then written.
 pub fn write_chunk<W: Sink, T: Sample>(
     writer: &mut TiffWriter<W>,
-    samples: &[T],
-    predictor: Predictor,
-    row: usize,
-    stride: usize,
+    rows: SampleRows<'_, T>,
 ) -> TiffResult<()>
-    requires stride { (0 < stride) × (stride ≤ row) }
-    requires whole { length samples.now % row ≡ 0 }
-    ensures { WritesCounted
-        (flat_map (le (type_size T.value_type))
-        (differences predictor (256 ^ type_size T.value_type) row stride
-        (map (sample_number (type_size T.value_type) T.bits) samples.now))) writer.old
-        writer.new result }
+    requires stride { (0 < rows.stride) × (rows.stride ≤ rows.row) }
+    requires whole { length rows.samples.now % rows.row ≡ 0 }
+    ensures { WritesCounted (row_bytes T.value_type T.bits rows.entry) writer.old writer.new result }
 {
-    writer.write_samples(samples, predictor, row, stride)
+    writer.write_samples(rows)
 }
 
 // Appends the bytes of each row as differences.
@@ -76,9 +69,8 @@ fn push_rows<T: Sample>(
     requires stride { (0 < stride) × (stride ≤ row) }
     requires whole { length samples.now % row ≡ 0 }
     ensures { MatchResult result
-        (λ _. out.new.items ≡ out.old.items ++ flat_map (le (type_size T.value_type))
-        (differences Predictor.Horizontal (256 ^ type_size T.value_type) row stride
-        (map (sample_number (type_size T.value_type) T.bits) samples.now)))
+        (λ _. out.new.items ≡ out.old.items
+        ++ predicted_bytes T.value_type T.bits Predictor.Horizontal row stride samples.now)
         (λ e. e ≡ TiffError.OutOfMemory) }
 {
     let mut at = 0;

@@ -347,9 +347,9 @@ impl NamedColorType for Gray64Float {
 /// Gray, 1 bit, eight pixels to a byte. This project adds this type.
 ///
 /// A sample in memory is a byte of pixels of one row, the leftmost pixel in the most significant
-/// bits, where 0 is black. Each row begins with a new byte: it has as many bytes as its pixels fill,
-/// the last one partly. These are the bytes that a reader of such a page returns. An image of this
-/// type has strips, no extra samples and no predictor.
+/// bits, where 0 is black. Each row begins with a new byte: it has as many bytes as its pixels
+/// fill, the last one partly. These are the bytes that a reader of such a page returns. An image of
+/// this type has strips, no extra samples and no predictor.
 pub struct Gray1;
 
 impl ColorType for Gray1 {
@@ -389,9 +389,9 @@ impl NamedColorType for Gray1 {
 /// Gray, 2 bits, four pixels to a byte. This project adds this type.
 ///
 /// A sample in memory is a byte of pixels of one row, the leftmost pixel in the most significant
-/// bits, where 0 is black. Each row begins with a new byte: it has as many bytes as its pixels fill,
-/// the last one partly. These are the bytes that a reader of such a page returns. An image of this
-/// type has strips, no extra samples and no predictor.
+/// bits, where 0 is black. Each row begins with a new byte: it has as many bytes as its pixels
+/// fill, the last one partly. These are the bytes that a reader of such a page returns. An image of
+/// this type has strips, no extra samples and no predictor.
 pub struct Gray2;
 
 impl ColorType for Gray2 {
@@ -431,9 +431,9 @@ impl NamedColorType for Gray2 {
 /// Gray, 4 bits, two pixels to a byte. This project adds this type.
 ///
 /// A sample in memory is a byte of pixels of one row, the leftmost pixel in the most significant
-/// bits, where 0 is black. Each row begins with a new byte: it has as many bytes as its pixels fill,
-/// the last one partly. These are the bytes that a reader of such a page returns. An image of this
-/// type has strips, no extra samples and no predictor.
+/// bits, where 0 is black. Each row begins with a new byte: it has as many bytes as its pixels
+/// fill, the last one partly. These are the bytes that a reader of such a page returns. An image of
+/// this type has strips, no extra samples and no predictor.
 pub struct Gray4;
 
 impl ColorType for Gray4 {

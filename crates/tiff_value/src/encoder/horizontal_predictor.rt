@@ -72,8 +72,8 @@ pub trait Sample: TiffScalar + Copy {
             (λ b. b.now ≡ flat_map (le (type_size Self.value_type))
             (map (sample_number (type_size Self.value_type) bits) samples.now)) };
 
-    /// Returns bytes as samples, without a copy, if each sample is one unsigned byte (`u8`). Returns
-    /// `None` for other samples.
+    /// Returns bytes as samples, without a copy, if each sample is one unsigned byte (`u8`).
+    /// Returns `None` for other samples.
     fn from_bytes(bytes: &[u8]) -> Option<&[Self]>
         ensures { IfSome result (λ samples. (type_size Self.value_type ≡ 1)
             × (map (sample_number (type_size Self.value_type) bits) samples.now ≡ bytes.now)) };

@@ -117,8 +117,8 @@ impl LittleEndianBytes<8> for Bits64 {
     ghost small = { refl };
 }
 
-// Returns a list, which has room for them, with the bytes of a number after it. The list is passed by
-// value, so that LLVM keeps its address and its length in registers.
+// Returns a list, which has room for them, with the bytes of a number after it. The list is passed
+// by value, so that LLVM keeps its address and its length in registers.
 fn push_octets<const N: usize>(list: Vec<u8>, octets: [u8; N]) -> Vec<u8>
     requires { vec_len list + N ≤ vec_capacity list }
     ensures items { result.items ≡ list.items ++ octets.entry }

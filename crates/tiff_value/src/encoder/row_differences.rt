@@ -30,8 +30,8 @@ pub(crate) trait Whole: TiffScalar + Copy {
         ensures own { bits self < modulus }
         ensures others { bits other < modulus };
 
-    /// Stores sixteen differences of a row: each number from number `at` on, minus the number at the
-    /// same distance from number `before` on, modulo the modulus.
+    /// Stores sixteen differences of a row: each number from number `at` on, minus the number at
+    /// the same distance from number `before` on, modulo the modulus.
     fn less_lanes(row: &[Self], at: usize, before: usize, out: &mut [Self])
         requires order { before ≤ at }
         requires row { at + 16 ≤ length row.now }

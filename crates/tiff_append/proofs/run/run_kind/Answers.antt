@@ -1,6 +1,6 @@
 use Rattle.std.proofs.Common.{◌≡◌, ℕ, List, length, ap, subst, ◌∙◌}
 use Rattle.tiff_base.specs.declared.tags.FileKind.{FileKind}
-use Rattle.tiff_encode.specs.FileBytes.{offset_len}
+use Rattle.tiff_value.specs.FileBytes.{offset_len}
 use Rattle.tiff_append.specs.Behind.{IsAddedTo, behind_contents}
 use Rattle.tiff_append.specs.lemmas.Behind.{ran_behind}
 use Rattle.tiff_append.proofs.run.run_kind.Goals as goal

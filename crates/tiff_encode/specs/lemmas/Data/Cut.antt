@@ -2,7 +2,7 @@
 use Rattle.std.proofs.Common.{◌≡◌, ℕ, zero, suc, ◌+◌, ◌-◌, ◌*◌, ◌/◌, ◌%◌, ◌<◌, ◌≤◌, cond, List, [], ◌∷◌, ◌++◌, length, map, take, drop, get_or, Result, Ok, Err, MatchResult, refl, ap, sym, ◌∙◌, subst, arith, append_assoc, append-nil}
 use Rattle.std.proofs.Math.Nat.{mul_comm, mul_assoc, mul-sub, mul-le-mul_right, mul-add-mod_self_right, one-le-mul, le-div_iff_mul-le}
 use Rattle.std.proofs.lemmas.Bool.{lt-ltb, le-ltb}
-use Rattle.std.proofs.lemmas.List.{ext_get_or, get_or-drop, get_or-map, get_or-take, length-drop, length-take-le, map-append, take-map, drop-map}
+use Rattle.std.proofs.lemmas.List.{ext_get_or, get_or-drop, get_or-map, get_or-take, length-drop, length-map, length-take-le, map-append, take-map, drop-map}
 use Rattle.std.proofs.lemmas.List.FromFn.{length-map-range_with_len, get_or-map-range_with_len, map-range_with_len_more}
 use Rattle.std.proofs.lemmas.Nat.{div_below, div-add-mod', div-mul-add, mod-mul-add}
 use Rattle.std.specs.Prelude.{◌&&◌, nat_lt, slice_index}
@@ -96,6 +96,16 @@ pixels_within y row h x w wide high all r b c =
     let d : ((y + row) * wide + (x + w)) * all ≡ ((y + row) * wide + x) * all
     + w * all = omega arith in
     omega (arith, t, d)
+
+-- the same by numbers that are the image's width and its samples of a pixel
+pub pixels_inside : (p : PageRecord) (r : RectRecord) (row wide all : ℕ) → IsPatch p r
+    → row < r.height → wide ≡ p.width → all ≡ p.samples
+    → ((r.y + row) * wide + r.x) * all + r.width * all ≤ p.width * p.height * p.samples
+pixels_inside p r row wide all part l w a =
+    let within =
+    pixels_within r.y row r.height r.x r.width p.width p.height p.samples l part.rows part.columns in
+    subst (λ m. ((r.y + row) * m + r.x) * all + r.width * all ≤ p.width * p.height * p.samples) (sym w)
+    (subst (λ m. ((r.y + row) * p.width + r.x) * m + r.width * m ≤ p.width * p.height * p.samples) (sym a) within)
 
 -- the samples of a pixel are at the pixel's offset
 at_pixel : (base x q all m n : ℕ) → q * all + m ≡ n
@@ -279,3 +289,39 @@ pub rows_pushed : (p : PageRecord) (numbers : List ℕ) (k n : ℕ) (r : RectRec
 rows_pushed p numbers k n r before now e b h =
     h ∙ (λ j. b j ++ tabulate (row_samples p) (row_sample p numbers (e j) n))
     ∙ more_rows p numbers k n
+
+-- ---- the samples of a row of a part, which are cut out of a list
+
+module _ {X : Type 0} (number : X → ℕ) (samples : List X) (p : PageRecord) (r : RectRecord)
+    (row wide all : ℕ) (part : IsPatch p r) (inside : row < r.height) (w : wide ≡ p.width)
+    (a : all ≡ p.samples) (whole : p.width * p.height * p.samples ≤ length samples) where
+  abbrev numbers : List ℕ
+  numbers = map number samples
+
+  -- where the row begins in the list
+  abbrev first_at : ℕ → ℕ → ℕ
+  first_at wide all = ((r.y + row) * wide + r.x) * all
+
+  within : first_at p.width p.samples + r.width * p.samples ≤ length numbers
+  within =
+      let l : length numbers ≡ length samples = length-map samples number in
+      let b = pixels_within r.y row r.height r.x r.width p.width p.height p.samples inside part.rows part.columns in
+      omega (arith, b, whole, l)
+
+  abbrev cut_row : ℕ → ℕ → List ℕ
+  cut_row wide all =
+      map number (take (first_at wide all + r.width * all - first_at wide all) (drop (first_at wide all) samples))
+
+  cut_is : cut_row wide all ≡ take (r.width * p.samples) (drop (first_at p.width p.samples) numbers)
+  cut_is = (λ j. cut_row (w j) (a j)) ∙ numbers_of number samples (first_at p.width p.samples) (r.width * p.samples)
+
+  pub chunky_cut : p.planar ≡ Chunky
+      → cut_row wide all ≡ tabulate (r.width * stored_samples p) (pixel_sample p numbers r row)
+  chunky_cut chunky = cut_is ∙ chunky_row p numbers r row within chunky
+
+  pub planar_cut : p.planar ≡ Planar
+      → tabulate r.width (λ column. slice_index (cut_row wide all) (column * all + r.plane))
+      ≡ tabulate (r.width * stored_samples p) (pixel_sample p numbers r row)
+  planar_cut planar =
+      (λ j. tabulate r.width (λ column. slice_index (cut_is j) (column * a j + r.plane)))
+      ∙ planar_row p numbers r row within planar (part.plane planar)

@@ -1,5 +1,5 @@
 -- Where the samples of a chunk are among those of its image.
-use Rattle.std.proofs.Common.{◌≡◌, ℕ, ◌+◌, ◌-◌, ◌*◌, ◌%◌, ◌^◌, ◌<◌, ◌≤◌, min, true, cond, List, length, take, drop, refl, ap, sym, ◌∙◌, subst, arith}
+use Rattle.std.proofs.Common.{◌≡◌, ℕ, ◌+◌, ◌-◌, ◌*◌, ◌%◌, ◌^◌, ◌<◌, ◌≤◌, min, true, cond, length, refl, ap, sym, ◌∙◌, subst, arith}
 use Rattle.std.proofs.lemmas.Bool.{ltb-true}
 use Rattle.std.proofs.Math.Nat.{mul_comm, mul_assoc, mul-le-mul_right, mod-eq_of_lt, div-mul-le_self}
 use Rattle.std.specs.Prelude.{◌&&◌, not}
@@ -127,9 +127,3 @@ module _ (i : OpenImage) (drawn : IsValidImage i.width i.height (length i.color.
         ∙ (let w = within in omega (arith, w, l))
 
 -- ---- a part of a list
-
-pub slice_is : {X : Type 0} (xs : List X) (start n from count : ℕ) → start ≡ from → n ≡ count
-    → take (start + n - start) (drop start xs) ≡ take count (drop from xs)
-slice_is xs start n from count s c =
-    (let e : start + n - start ≡ n = omega arith in ap (λ m. take m (drop start xs)) e)
-    ∙ (λ j. take (c j) (drop (s j) xs))

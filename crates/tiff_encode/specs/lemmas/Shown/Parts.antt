@@ -19,7 +19,7 @@ use Rattle.tiff_page.specs.Laws.{HasSides}
 use Rattle.tiff_page.specs.lemmas.PositionLaws.{has_pixel, column_is, row_is}
 use Rattle.tiff_value.specs.declared.encoder.colortype.ColorTypeName.TheVariants.{Gray8}
 use Rattle.tiff_value.specs.ColorTypes.{color_type, inner_type, inner_size}
-use Rattle.tiff_encode.specs.FileBytes.{rows_per_strip}
+use Rattle.tiff_value.specs.FileBytes.{rows_per_strip}
 use Rattle.tiff_encode.specs.declared.encoder.settings.Compression.TheVariants.{Uncompressed}
 use Rattle.tiff_encode.specs.Machine.{FileState, OpenDirectory, compression_method}
 use Rattle.tiff_encode.specs.Chunks.{all_samples, image_page, shown_page, is_tile, is_planar, row_samples, chunk_samples, cut_out, chunks_left, part, parts_left, sample_in}

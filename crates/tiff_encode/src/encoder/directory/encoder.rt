@@ -3,11 +3,11 @@
 ghost use Rattle.std.specs.Prelude.{◌≡◌, ℕ, ◌^◌, ◌<◌, length, IfOk, OnErr, Ok, None, Some};
 ghost use Rattle.std.specs.FinMap as map;
 ghost use Rattle.tiff_encode.specs.Calls as calls;
-ghost use Rattle.tiff_encode.specs.WriteOps.{model_after};
+ghost use Rattle.tiff_value.specs.WriteOps.{model_after};
 ghost use Rattle.tiff_encode.specs.Ends.{Ends, EndsSilently, EndsAsDefined};
 ghost use Rattle.tiff_encode.specs.Extending.{Extends};
 ghost use Rattle.tiff_encode.specs.Leaves.{Leaves, LeavesLinked};
-ghost use Rattle.tiff_encode.specs.Model.{IsLink, Model, FileContains};
+ghost use Rattle.tiff_value.specs.Model.{IsLink, Model, FileContains};
 ghost use Rattle.tiff_encode.specs.Rooms.{StaysUnlessCut};
 
 use crate::encoder::TiffEncoder;
@@ -25,8 +25,8 @@ use tiff_value::encoder::tiff_value::TiffValue;
 /// An open directory in the file of an encoder, alone or with an image. It ends by `finish`,
 /// `finish_with_offsets` or `discard`: the checker rejects code that ends it in another way. After
 /// a write to the sink fails, each later call that writes returns `UsageError(WriterFailed)`. If a
-/// call that writes an entry or a tag is refused for another reason, the file and the open directory
-/// are as they were before the call.
+/// call that writes an entry or a tag is refused for another reason, the file and the open
+/// directory are as they were before the call.
 pub struct DirectoryEncoder<'a, W: Sink, K: TiffKind = TiffKindStandard, D = DirectoryState> {
     pub(crate) encoder: &'a mut TiffEncoder<W, K>,
     pub(crate) state: D,

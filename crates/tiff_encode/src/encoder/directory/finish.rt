@@ -6,7 +6,7 @@ ghost use Rattle.tiff_encode.specs.Calls as calls;
 ghost use Rattle.tiff_encode.specs.Causes.{end_of, finish_cause, is_past};
 ghost use Rattle.tiff_encode.specs.Ends.{Ends};
 ghost use Rattle.tiff_encode.specs.Placing.{Lists, LinksFrom};
-ghost use Rattle.tiff_encode.specs.FileBytes.{offset_len};
+ghost use Rattle.tiff_value.specs.FileBytes.{offset_len};
 
 use crate::encoder::TiffEncoder;
 use crate::encoder::directory::listing::{check_end, directory_bytes};

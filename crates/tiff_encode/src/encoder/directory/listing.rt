@@ -5,7 +5,7 @@ ghost use Rattle.std.specs.FinMap as map;
 ghost use Rattle.std.specs.List.{list_any};
 ghost use Rattle.tiff_encode.specs.Causes.{is_past, is_past_count};
 ghost use Rattle.tiff_encode.specs.Placing.{end_test, Checks};
-ghost use Rattle.tiff_encode.specs.FileBytes.{count_len, directory_bytes, entry_bytes};
+ghost use Rattle.tiff_value.specs.FileBytes.{count_len, directory_bytes, entry_bytes};
 
 use crate::encoder::directory::state::DirectoryState;
 use crate::encoder::limits::{is_past_offset, offset_size};
@@ -25,7 +25,7 @@ fn count_bytes(kind: FileKind) -> usize
 }
 
 // Appends the bytes of an entry.
-#[tactic(auto, using(crate::proofs::Listing::le_offset))]
+#[tactic(auto, using(tiff_value::specs::lemmas::File::Listing::le_offset))]
 fn push_entry(out: &mut Vec<u8>, kind: FileKind, tag: u16, entry: &Entry) -> Result<(), AllocError>
     ensures { OnOk result (out.new.items ≡ out.old.items ++ entry_bytes kind (tag, entry.now)) }
 {
@@ -39,7 +39,7 @@ fn push_entry(out: &mut Vec<u8>, kind: FileKind, tag: u16, entry: &Entry) -> Res
 
 /// Returns the bytes of a directory with link 0 in a file of a kind: the number of entries, the
 /// entries in ascending order of tag numbers, the link.
-#[tactic(auto, unfolding(crate::specs::FileBytes::directory_bytes), using(crate::proofs::Listing::le_count, crate::proofs::Listing::le_zero))]
+#[tactic(auto, unfolding(tiff_value::specs::FileBytes::directory_bytes), using(tiff_value::specs::lemmas::File::Listing::le_count, tiff_value::specs::lemmas::File::Listing::le_zero))]
 pub fn directory_bytes(
     alloc: Global,
     kind: FileKind,

@@ -51,7 +51,7 @@ impl Model for TagValue {
     ghost use Rattle.tiff_base.specs.declared.tags.Tag.{Tag};
     ghost use Rattle.tiff_base.specs.Types.{type_size};
     ghost use Rattle.tiff_value.specs.Data.{FieldData};
-    ghost use Rattle.tiff_encode.specs.Value.{filled_field};
+    ghost use Rattle.tiff_value.specs.Fields.{filled_field};
 
     ghost Value = { Tag × FieldData };
 

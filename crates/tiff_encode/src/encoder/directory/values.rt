@@ -8,7 +8,7 @@ ghost use Rattle.tiff_encode.specs.Ends.{Ends};
 ghost use Rattle.tiff_encode.specs.Machine.{by_cause};
 ghost use Rattle.tiff_encode.specs.Placing.{Checks, Places};
 ghost use Rattle.tiff_encode.specs.Rooms.{IsInRoom};
-ghost use Rattle.tiff_encode.specs.Value.{data_in};
+ghost use Rattle.tiff_value.specs.Fields.{data_in};
 
 use crate::encoder::TiffEncoder;
 use crate::encoder::kind::TiffKind;

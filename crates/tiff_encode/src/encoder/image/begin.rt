@@ -10,7 +10,7 @@ ghost use Rattle.tiff_encode.specs.Ends.{Ends};
 ghost use Rattle.tiff_encode.specs.Machine.{compression_method};
 ghost use Rattle.tiff_encode.specs.Placing.{Checks};
 ghost use Rattle.tiff_encode.specs.Tagging.{fields_of};
-ghost use Rattle.tiff_encode.specs.FileBytes.{resolutions_offset};
+ghost use Rattle.tiff_value.specs.FileBytes.{resolutions_offset};
 
 use crate::encoder::TiffEncoder;
 use crate::encoder::directory::state::DirectoryState;

@@ -27,6 +27,7 @@ use tiff_base::color::ChunkType;
 use tiff_base::error::{TiffError, TiffResult, UsageError};
 use tiff_base::io::{IoKind, Sink};
 use tiff_base::tags::{FileKind, Predictor};
+use tiff_value::encoder::chunk::SampleRows;
 use tiff_value::encoder::horizontal_predictor::Sample;
 
 // Returns the number of bytes of `count` samples. The only error is `OutOfMemory`, if `count` is
@@ -71,9 +72,15 @@ impl<T: Sample> ImageState<T> {
     {
         byte_count::<T>(samples.len())?;
         let (row, stride) = self.row_and_stride();
+        let rows = SampleRows {
+            samples,
+            predictor: self.predictor,
+            row,
+            stride,
+        };
         match self.compression {
-            Compression::PackbitsRows => scratch.pack_rows(samples, self.predictor, row, stride),
-            _ => scratch.pack(samples, self.predictor, row, stride),
+            Compression::PackbitsRows => scratch.pack_rows(rows),
+            _ => scratch.pack(rows),
         }
     }
 
@@ -172,12 +179,17 @@ impl<W: Sink, K: TiffKind> TiffEncoder<W, K> {
     {
         let bytes = byte_count::<T>(samples.len())?;
         let (row, stride) = image.row_and_stride();
-        let predictor = image.predictor;
+        let rows = SampleRows {
+            samples,
+            predictor: image.predictor,
+            row,
+            stride,
+        };
         let offset = self.chunk_offset(image, samples.len(), bytes)?;
         let Ok(()) = image.chunks.reserve(1) else {
             return Err(TiffError::OutOfMemory);
         };
-        self.append_rows(samples, predictor, row, stride)?;
+        self.append_rows(rows)?;
         image.chunks.push_reserved(Chunk {
             offset,
             stored: bytes as u64,

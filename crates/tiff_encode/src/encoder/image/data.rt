@@ -340,7 +340,8 @@ impl<W: Sink, K: TiffKind> TiffEncoder<W, K> {
         Ok(())
     }
 
-    // Makes room in the sink for the data of an image that isn't compressed, before its first chunk.
+    // Makes room in the sink for the data of an image that isn't compressed, before its first
+    // chunk.
     fn reserve_data<T: Sample>(&mut self, image: &ImageState<T>)
         ensures { self.new ≡ self.old }
     {

@@ -10,7 +10,7 @@ ghost use Rattle.tiff_encode.specs.Ends.{EndsSilently, EndsAsDefined};
 ghost use Rattle.tiff_encode.specs.Given.{given_count, given_numbers, AreStorable, IsChunkStorable};
 ghost use Rattle.tiff_encode.specs.ImageData.{LeavesChunk, LeavesData, LeavesNewImage, ShowsFinished, WritesImage, WritesImageData};
 ghost use Rattle.tiff_encode.specs.Leaves.{LeavesLinked};
-ghost use Rattle.tiff_encode.specs.Model.{IsLink, Model, FileContains};
+ghost use Rattle.tiff_value.specs.Model.{IsLink, Model, FileContains};
 ghost use Rattle.tiff_encode.specs.Open.{RecordsImage, model_by};
 ghost use Rattle.tiff_encode.specs.Storing.{WritesStoredChunk};
 
@@ -44,13 +44,13 @@ impl<W: Sink, K: TiffKind> TiffEncoder<W, K> {
     /// Begins an image of a color type, `width` pixels wide and `height` rows high. A sample of
     /// packed pixels (`Gray1`, `Gray2`, `Gray4`) is a byte of them, and a row has as many bytes as
     /// its pixels fill. The call appends padding up to a multiple of 4 bytes, and writes the first
-    /// tags of the image, with a resolution of 1/1. The chunks are strips of as many rows as make a million bytes, or of one
-    /// row if they are compressed. Returns the first error that applies: `UsageError(WriterFailed)`
-    /// if an earlier write to the sink failed; `FormatError(InvalidDimensions)` if the width or the
-    /// height is 0; `UsageError(PredictorIncompatible)` for differences of floating point samples or
-    /// of packed pixels;
-    /// `UsageError(PredictorUnavailable)` for `Predictor::FloatingPoint`; `IntSizeError` if in a
-    /// classic file the offset of a resolution exceeds 4 bytes. Otherwise `OutOfMemory` if an
+    /// tags of the image, with a resolution of 1/1. The chunks are strips of as many rows as make a
+    /// million bytes, or of one row if they are compressed. Returns the first error that applies:
+    /// `UsageError(WriterFailed)` if an earlier write to the sink failed;
+    /// `FormatError(InvalidDimensions)` if the width or the height is 0;
+    /// `UsageError(PredictorIncompatible)` for differences of floating point samples or of packed
+    /// pixels; `UsageError(PredictorUnavailable)` for `Predictor::FloatingPoint`; `IntSizeError` if
+    /// in a classic file the offset of a resolution exceeds 4 bytes. Otherwise `OutOfMemory` if an
     /// allocation fails, or the error of the sink, `IoError(Device)` or `OutOfMemory`.
     pub fn new_image<C: ColorType>(
         &mut self,
@@ -165,8 +165,8 @@ impl<'a, W: Sink, K: TiffKind, T: Sample> DirectoryEncoder<'a, W, K, ImageState<
         self.write_given_chunk(ImageSamples::Typed(samples))
     }
 
-    /// `write_chunk` of samples in the number type of the color type, or of bytes that are stored as
-    /// they are.
+    /// `write_chunk` of samples in the number type of the color type, or of bytes that are stored
+    /// as they are.
     pub(crate) fn write_given_chunk(&mut self, samples: ImageSamples<'_, T>) -> TiffResult<()>
         requires { IsChunkStorable (type_size T.value_type) self.old.state samples }
         ensures same_reference { self.new.encoder.ghost_name ≡ self.old.encoder.ghost_name }

@@ -10,8 +10,8 @@ ghost use Rattle.tiff_encode.specs.Calls as calls;
 ghost use Rattle.tiff_encode.specs.Ends.{Ends};
 ghost use Rattle.tiff_encode.specs.LastTags.{bits_tags, list_tags, list_tags_of, number_of_part, samples_tags};
 ghost use Rattle.tiff_encode.specs.Tagging.{fields_of, write_fields};
-ghost use Rattle.tiff_encode.specs.Value.{offset_values};
-ghost use Rattle.tiff_encode.specs.FileBytes.{offset_len};
+ghost use Rattle.tiff_value.specs.Fields.{offset_values};
+ghost use Rattle.tiff_value.specs.FileBytes.{offset_len};
 
 use crate::encoder::TiffEncoder;
 use crate::encoder::directory::state::DirectoryState;
@@ -59,7 +59,7 @@ impl<'a, K: TiffKind> TiffValue for ChunkNumbers<'a, K> {
     ghost use Rattle.std.specs.Prelude.{length, map, Ok};
     ghost use Rattle.tiff_value.specs.Data.{data_of};
     ghost use Rattle.tiff_encode.specs.LastTags.{number_of_part, offset_type, offsets_value};
-    ghost use Rattle.tiff_encode.specs.Value.{offset_values};
+    ghost use Rattle.tiff_value.specs.Fields.{offset_values};
 
     ghost value_type = { offset_type K.kind };
 

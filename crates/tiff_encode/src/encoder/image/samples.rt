@@ -16,8 +16,8 @@ fn fact_octets(bytes: &[u8])
     let _count = bytes.len();
 }
 
-/// The samples of an image or a chunk: in the number type of its color type, or as bytes that are stored as
-/// they are.
+/// The samples of an image or a chunk: in the number type of its color type, or as bytes that are
+/// stored as they are.
 #[derive(Clone, Copy, Drop)]
 pub(crate) enum ImageSamples<'a, S> {
     Typed(&'a [S]),

@@ -8,7 +8,7 @@ ghost use Rattle.tiff_encode.specs.Causes as causes;
 ghost use Rattle.tiff_encode.specs.Causes.{end_of, field_cause};
 ghost use Rattle.tiff_encode.specs.Ends.{Ends};
 ghost use Rattle.tiff_encode.specs.Leaves.{Leaves};
-ghost use Rattle.tiff_encode.specs.Model.{Model, FileContains};
+ghost use Rattle.tiff_value.specs.Model.{Model, FileContains};
 ghost use Rattle.tiff_encode.specs.Placing.{Checks};
 ghost use Rattle.tiff_encode.specs.Tagging.{StopsResolving, fields_of};
 
@@ -353,10 +353,10 @@ impl<'a, W: Sink, K: TiffKind, T: Sample> DirectoryEncoder<'a, W, K, ImageState<
     /// each extra sample. The list replaces an earlier one. Each pixel that is written after the
     /// call has these samples too. Returns the first error that applies: `UsageError(WriterFailed)`
     /// if an earlier write to the sink failed; `UsageError(ReconfiguredAfterImageWrite)` if a chunk
-    /// is in the file; `IoError(InvalidInput)` for packed pixels, which have none; `IntSizeError` if
-    /// a pixel has more than 65535 samples in all, or if in a
-    /// classic file the offset of the list exceeds 4 bytes. Otherwise `OutOfMemory` if an
-    /// allocation fails, or the error of the sink, `IoError(Device)` or `OutOfMemory`.
+    /// is in the file; `IoError(InvalidInput)` for packed pixels, which have none; `IntSizeError`
+    /// if a pixel has more than 65535 samples in all, or if in a classic file the offset of the
+    /// list exceeds 4 bytes. Otherwise `OutOfMemory` if an allocation fails, or the error of the
+    /// sink, `IoError(Device)` or `OutOfMemory`.
     pub fn extra_samples(&mut self, extra: &[ExtraSamples]) -> TiffResult<()>
         ensures same_reference { self.new.encoder.ghost_name ≡ self.old.encoder.ghost_name }
         ensures stays { OnErr result (self.new.state ≡ self.old.state) }
@@ -402,7 +402,8 @@ impl<'a, W: Sink, K: TiffKind, T: Sample> DirectoryEncoder<'a, W, K, ImageState<
     /// tiles of another size. Returns the first error that applies: `UsageError(WriterFailed)` if
     /// an earlier write to the sink failed; `UsageError(ReconfiguredAfterImageWrite)` if a chunk is
     /// in the file; `IoError(InvalidInput)` if the width or the length is 0 or not a multiple of
-    /// 16, and for packed pixels, which have strips alone. Otherwise `OutOfMemory` if an allocation fails.
+    /// 16, and for packed pixels, which have strips alone. Otherwise `OutOfMemory` if an allocation
+    /// fails.
     pub fn tiles(&mut self, width: u32, length: u32) -> TiffResult<()>
         ensures same_reference { self.new.encoder.ghost_name ≡ self.old.encoder.ghost_name }
         ensures stays { OnErr result (self.new.state ≡ self.old.state) }

@@ -20,8 +20,8 @@ use tiff_base::tags::{ExtraSamples, PlanarConfiguration, Predictor, Tag};
 use tiff_value::encoder::horizontal_predictor::Sample;
 
 /// How an image is divided into chunks: strips or tiles; the width and the height of a chunk, in
-/// columns and rows, where the last strip of a plane can have fewer rows; and whether a chunk contains all
-/// samples of its pixels or those of one plane.
+/// columns and rows, where the last strip of a plane can have fewer rows; and whether a chunk
+/// contains all samples of its pixels or those of one plane.
 #[derive(Clone, Copy, Drop)]
 pub struct ChunkLayout {
     pub chunk_type: ChunkType,

@@ -1,69 +1,37 @@
 //! Runs the steps of a job in a directory.
 
 ghost use Rattle.std.specs.Prelude.{◌≡◌, ◌+◌, ◌++◌, ◌∷◌, [], ◌<◌, ◌≤◌, length, vec_len, vec_capacity, OnErr};
-ghost use Rattle.tiff_encode.specs.Calls as calls;
 ghost use Rattle.tiff_encode.specs.Ends.{Ends};
-ghost use Rattle.tiff_encode.specs.JobValues.{buffer_in, value_data};
+ghost use Rattle.tiff_encode.specs.GivenValues.{tag_of};
+ghost use Rattle.tiff_encode.specs.JobValues.{given_in};
 ghost use Rattle.tiff_encode.specs.Jobs.{AllStepped, DirectoryStepped};
 ghost use Rattle.tiff_encode.specs.Leaves.{Leaves};
-ghost use Rattle.tiff_encode.specs.Model.{Model, FileContains};
+ghost use Rattle.tiff_value.specs.Model.{Model, FileContains};
 ghost use Rattle.tiff_encode.specs.Stepping.{Moves};
 
 use crate::encoder::directory::encoder::DirectoryEncoder;
 use crate::encoder::directory::state::{DirectoryState, HasDirectory};
 use crate::encoder::kind::TiffKind;
-use crate::encoder::script::{DirectoryStep, JobBuffer, JobValue, StepReply};
+use crate::encoder::script::{DirectoryStep, JobField, StepReply};
 use tiff_base::error::TiffResult;
 use tiff_base::io::Sink;
 use tiff_base::tags::Tag;
 
-// Appends an item to a list that has room for it.
-pub(crate) fn put<T: Drop>(items: &mut Vec<T>, item: T)
-    requires { vec_len items.old < vec_capacity items.old }
-    ensures items { items.new.items ≡ items.old.items ++ item ∷ [] }
-    ensures len { vec_len items.new ≡ vec_len items.old + 1 }
-    ensures capacity { vec_capacity items.old ≤ vec_capacity items.new }
-{
-    if items.push(item).is_err() {
-        unreachable!();
-    }
-}
-
 impl<'a, W: Sink, K: TiffKind, D: HasDirectory> DirectoryEncoder<'a, W, K, D> {
-    // `write_tag` of a value of a job.
-    fn write_job_tag(&mut self, tag: Tag, value: &JobValue) -> TiffResult<()>
+    // `write_tag` of a value of a job, or `write_tag_buf` of a buffer.
+    fn write_job_tag(&mut self, tag: Tag, field: JobField<'_>) -> TiffResult<()>
         ensures same_reference { self.new.encoder.ghost_name ≡ self.old.encoder.ghost_name }
         ensures stays { OnErr result (self.new.state ≡ self.old.state) }
         ensures rest { self.new.state ≡ D.with_directory self.old.state (D.open_directory self.new.state) }
         ensures answer { Ends (λ _. D.open_directory self.new.state)
-            (calls.write_tag (D.open_directory self.old.state) tag (value_data value.now)
-            self.old.encoder.now) result
-            self.old.encoder.now self.new.encoder.now }
+            (tag_of (D.open_directory self.old.state) tag (given_in field.entry) self.old.encoder.now)
+            result self.old.encoder.now self.new.encoder.now }
         ensures leaves { (m : Model) → FileContains self.old.encoder.now.kind self.old.encoder.now.bytes m
-            → Leaves (calls.write_tag (D.open_directory self.old.state) tag (value_data value.now)
+            → Leaves (tag_of (D.open_directory self.old.state) tag (given_in field.entry)
             self.old.encoder.now) result self.old.encoder.now self.new.encoder.now m }
     {
         let room = self.state.make_room(tag);
-        let placed = self.encoder.place_job_value(value, room.is_made());
-        self.state.settle(tag, room, placed)
-    }
-
-    // `write_tag_buf` of a buffer of a job.
-    fn write_job_tag_buf(&mut self, tag: Tag, buffer: &JobBuffer) -> TiffResult<()>
-        ensures same_reference { self.new.encoder.ghost_name ≡ self.old.encoder.ghost_name }
-        ensures stays { OnErr result (self.new.state ≡ self.old.state) }
-        ensures rest { self.new.state ≡ D.with_directory self.old.state (D.open_directory self.new.state) }
-        ensures answer { Ends (λ _. D.open_directory self.new.state)
-            (calls.write_tag_buf (D.open_directory self.old.state) tag (buffer_in buffer.now)
-            self.old.encoder.now) result
-            self.old.encoder.now self.new.encoder.now }
-        ensures leaves { (m : Model) → FileContains self.old.encoder.now.kind self.old.encoder.now.bytes m
-            → Leaves (calls.write_tag_buf (D.open_directory self.old.state) tag
-            (buffer_in buffer.now) self.old.encoder.now) result self.old.encoder.now
-            self.new.encoder.now m }
-    {
-        let room = self.state.make_room(tag);
-        let placed = self.encoder.place_job_buffer(buffer, room.is_made());
+        let placed = self.encoder.place_job(field, room.is_made());
         self.state.settle(tag, room, placed)
     }
 
@@ -76,11 +44,11 @@ impl<'a, W: Sink, K: TiffKind, D: HasDirectory> DirectoryEncoder<'a, W, K, D> {
     {
         match step {
             DirectoryStep::WriteTag(tag, value) => {
-                self.write_job_tag(*tag, value)?;
+                self.write_job_tag(*tag, JobField::Value(value))?;
                 Ok(StepReply::Nothing)
             }
             DirectoryStep::WriteTagBuf(tag, buffer) => {
-                self.write_job_tag_buf(*tag, buffer)?;
+                self.write_job_tag(*tag, JobField::Buffer(buffer))?;
                 Ok(StepReply::Nothing)
             }
             DirectoryStep::WriteData(value) => {
@@ -128,7 +96,7 @@ impl<'a, W: Sink, K: TiffKind> DirectoryEncoder<'a, W, K, DirectoryState> {
     {
         for step in steps {
             let reply = self.step(step);
-            put(replies, reply);
+            replies.push_reserved(reply);
         }
     }
 }

@@ -10,7 +10,6 @@ ghost use Rattle.tiff_encode.specs.Stepping.{KeepsImage, StepsDraw};
 use crate::encoder::directory::encoder::DirectoryEncoder;
 use crate::encoder::image::samples::ImageSamples;
 use crate::encoder::image::state::ImageState;
-use crate::encoder::jobs::directory_steps::put;
 use crate::encoder::kind::TiffKind;
 use crate::encoder::script::{ImageStep, JobSamples, StepReply};
 use tiff_base::error::TiffResult;
@@ -144,7 +143,7 @@ impl<'a, W: Sink, K: TiffKind, T: Sample> DirectoryEncoder<'a, W, K, ImageState<
         for step in steps {
             let reply = self.image_step(step);
             self.encoder.fact_kind();
-            put(replies, reply);
+            replies.push_reserved(reply);
         }
     }
 }

@@ -2,14 +2,15 @@
 
 ghost use Rattle.tiff_encode.specs.Calls as calls;
 ghost use Rattle.tiff_encode.specs.Ends.{Ends};
-ghost use Rattle.tiff_encode.specs.JobValues.{buffer_in, value_data};
+ghost use Rattle.tiff_encode.specs.GivenValues.{entry_of};
+ghost use Rattle.tiff_encode.specs.JobValues.{buffer_in, given_in, value_data};
 ghost use Rattle.tiff_encode.specs.Leaves.{Leaves};
-ghost use Rattle.tiff_encode.specs.Model.{Model, FileContains};
+ghost use Rattle.tiff_value.specs.Model.{Model, FileContains};
 ghost use Rattle.tiff_encode.specs.Rooms.{IsInRoom};
 
 use crate::encoder::TiffEncoder;
 use crate::encoder::kind::TiffKind;
-use crate::encoder::script::{JobBuffer, JobValue};
+use crate::encoder::script::{JobBuffer, JobField, JobValue};
 use std::alloc::Global;
 use tiff_base::directory::Entry;
 use tiff_base::error::TiffResult;
@@ -73,8 +74,9 @@ impl<W: Sink, K: TiffKind, const ROOM: bool> ValueVisitor<TiffEncoder<W, K>, Ent
     ghost use Rattle.tiff_base.specs.Field.{Field};
     ghost use Rattle.tiff_encode.specs.Calls as calls;
     ghost use Rattle.tiff_encode.specs.Ends.{Ends};
+    ghost use Rattle.tiff_encode.specs.GivenValues.{entry_of};
     ghost use Rattle.tiff_encode.specs.Leaves.{Leaves};
-    ghost use Rattle.tiff_encode.specs.Model.{Model, FileContains};
+    ghost use Rattle.tiff_value.specs.Model.{Model, FileContains};
     ghost use Rattle.tiff_encode.specs.Rooms.{IsInRoom};
 
     ghost hands = { λ given old result new.
@@ -99,8 +101,9 @@ impl<W: Sink, K: TiffKind> ValueVisitor<TiffEncoder<W, K>, u64> for ForData {
     ghost use Rattle.std.specs.Prelude.{ℕ};
     ghost use Rattle.tiff_encode.specs.Calls as calls;
     ghost use Rattle.tiff_encode.specs.Ends.{Ends};
+    ghost use Rattle.tiff_encode.specs.GivenValues.{entry_of};
     ghost use Rattle.tiff_encode.specs.Leaves.{Leaves};
-    ghost use Rattle.tiff_encode.specs.Model.{Model, FileContains};
+    ghost use Rattle.tiff_value.specs.Model.{Model, FileContains};
 
     ghost hands = { λ given old result new. Ends (λ (n : ℕ). n) (calls.write_data given old) result old new
         × ((m : Model) → FileContains old.kind old.bytes m
@@ -186,6 +189,19 @@ impl<W: Sink, K: TiffKind> TiffEncoder<W, K> {
         let entry = self.place_ordered(buffer.order, buffer.data_type, &buffer.bytes, has_room)?;
         self.fact_fits();
         Ok(entry)
+    }
+
+    /// `write_entry` of a value of a job, or `write_entry_buf` of a buffer.
+    pub(crate) fn place_job(&mut self, field: JobField<'_>, has_room: bool) -> TiffResult<Entry>
+        ensures answer { Ends (λ e. e) (entry_of (given_in field.entry) self.old) result self.old self.new }
+        ensures room { IsInRoom has_room self.old self.new result }
+        ensures leaves { (m : Model) → FileContains self.old.kind self.old.bytes m
+            → Leaves (entry_of (given_in field.entry) self.old) result self.old self.new m }
+    {
+        match field {
+            JobField::Value(value) => self.place_job_value(value, has_room),
+            JobField::Buffer(buffer) => self.place_job_buffer(buffer, has_room),
+        }
     }
 
     /// `write_data_buf` of a buffer of a job.

@@ -1,6 +1,6 @@
 use Rattle.std.proofs.Common.{◌≡◌, ℕ, List, ap, length, subst, ◌∙◌}
 use Rattle.tiff_base.specs.declared.tags.FileKind.{FileKind}
-use Rattle.tiff_encode.specs.FileBytes.{offset_len}
+use Rattle.tiff_value.specs.FileBytes.{offset_len}
 use Rattle.tiff_append.specs.Behind.{IsAddedTo, behind_contents}
 use Rattle.tiff_ffi.proofs.BehindRan.{added_behind}
 use Rattle.tiff_ffi.proofs.appended.run_at_kind.Goals as goal

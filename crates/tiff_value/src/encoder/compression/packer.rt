@@ -107,9 +107,10 @@ pub fn pack_bits(alloc: Global, bytes: &[u8]) -> TiffResult<Vec<u8>>
     Ok(out)
 }
 
-/// Returns rows of `row` bytes, each packed by PackBits by itself. TIFF 6.0 section 9 asks for this:
-/// "Pack each row separately. Do not compress across row boundaries." The packed bytes have at most
-/// one byte more for each 128 bytes of a row or part of 128. The only error is `OutOfMemory`.
+/// Returns rows of `row` bytes, each packed by PackBits by itself. TIFF 6.0 section 9 asks for
+/// this: "Pack each row separately. Do not compress across row boundaries." The packed bytes have
+/// at most one byte more for each 128 bytes of a row or part of 128. The only error is
+/// `OutOfMemory`.
 pub fn pack_rows(alloc: Global, bytes: &[u8], row: usize) -> TiffResult<Vec<u8>>
     requires some { 0 < row }
     requires whole { length bytes.now % row ≡ 0 }

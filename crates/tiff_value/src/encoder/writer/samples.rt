@@ -5,10 +5,12 @@ ghost use Rattle.std.specs.Prelude.{◌≡◌, ◌%◌, ◌^◌, ◌<◌, ◌≤
 ghost use Rattle.tiff_base.specs.Number.{le};
 ghost use Rattle.tiff_base.specs.Types.{type_size};
 ghost use Rattle.tiff_value.specs.ColorType.{sample_number};
-ghost use Rattle.tiff_value.specs.Differences.{differences, predicted_row};
+ghost use Rattle.tiff_value.specs.Differences.{predicted_row};
+ghost use Rattle.tiff_value.specs.Predicted.{predicted_bytes, row_bytes};
 ghost use Rattle.tiff_value.specs.Written.{writer_after, IsCut, WritesCounted, WritesRaw};
 
 use super::TiffWriter;
+use crate::encoder::chunk::SampleRows;
 use crate::encoder::horizontal_predictor::Sample;
 use std::alloc::AllocError;
 use tiff_base::error::{TiffError, TiffResult, UsageError};
@@ -90,13 +92,9 @@ impl<W: Sink> TiffWriter<W> {
         requires fresh { self.old.fault ≡ None }
         ensures { MatchResult result
             (λ _. self.new ≡ writer_after self.old
-            (flat_map (le (type_size T.value_type))
-            (differences Predictor.Horizontal (256 ^ type_size T.value_type) row stride
-            (map (sample_number (type_size T.value_type) T.bits) samples.now))))
+            (predicted_bytes T.value_type T.bits Predictor.Horizontal row stride samples.now))
             (λ e. IsCut
-            (flat_map (le (type_size T.value_type))
-            (differences Predictor.Horizontal (256 ^ type_size T.value_type) row stride
-            (map (sample_number (type_size T.value_type) T.bits) samples.now))) e
+            (predicted_bytes T.value_type T.bits Predictor.Horizontal row stride samples.now) e
             self.old self.new) }
     {
         let mut room = [0u8; BAND];
@@ -132,48 +130,28 @@ impl<W: Sink> TiffWriter<W> {
     }
 
     // Writes all samples, without an update of `last_written`.
-    fn write_predicted<T: Sample>(
-        &mut self,
-        samples: &[T],
-        predictor: Predictor,
-        row: usize,
-        stride: usize,
-    ) -> TiffResult<()>
-        requires stride { (0 < stride) × (stride ≤ row) }
-        requires whole { length samples.now % row ≡ 0 }
-        ensures { WritesRaw
-            (flat_map (le (type_size T.value_type))
-            (differences predictor (256 ^ type_size T.value_type) row stride
-            (map (sample_number (type_size T.value_type) T.bits) samples.now))) self.old
-            self.new result }
+    fn write_predicted<T: Sample>(&mut self, rows: SampleRows<'_, T>) -> TiffResult<()>
+        requires stride { (0 < rows.stride) × (rows.stride ≤ rows.row) }
+        requires whole { length rows.samples.now % rows.row ≡ 0 }
+        ensures { WritesRaw (row_bytes T.value_type T.bits rows.entry) self.old self.new result }
     {
         if self.failed {
             return Err(TiffError::UsageError(UsageError::WriterFailed));
         }
-        match predictor {
-            Predictor::Horizontal => self.write_rows(samples, row, stride),
-            _ => self.write_unpredicted(samples),
+        match rows.predictor {
+            Predictor::Horizontal => self.write_rows(rows.samples, rows.row, rows.stride),
+            _ => self.write_unpredicted(rows.samples),
         }
     }
 
     // Writes all samples, as `write_chunk` does.
-    pub(crate) fn write_samples<T: Sample>(
-        &mut self,
-        samples: &[T],
-        predictor: Predictor,
-        row: usize,
-        stride: usize,
-    ) -> TiffResult<()>
-        requires stride { (0 < stride) × (stride ≤ row) }
-        requires whole { length samples.now % row ≡ 0 }
-        ensures { WritesCounted
-            (flat_map (le (type_size T.value_type))
-            (differences predictor (256 ^ type_size T.value_type) row stride
-            (map (sample_number (type_size T.value_type) T.bits) samples.now))) self.old
-            self.new result }
+    pub(crate) fn write_samples<T: Sample>(&mut self, rows: SampleRows<'_, T>) -> TiffResult<()>
+        requires stride { (0 < rows.stride) × (rows.stride ≤ rows.row) }
+        requires whole { length rows.samples.now % rows.row ≡ 0 }
+        ensures { WritesCounted (row_bytes T.value_type T.bits rows.entry) self.old self.new result }
     {
         let start = self.at;
-        self.write_predicted(samples, predictor, row, stride)?;
+        self.write_predicted(rows)?;
         self.last = self.at - start;
         Ok(())
     }

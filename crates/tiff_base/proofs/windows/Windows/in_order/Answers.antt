@@ -1,4 +1,4 @@
-use Rattle.std.proofs.Common.{ap, refl}
+use Rattle.std.proofs.Common.{ap}
 use Rattle.std.specs.Option.{is_some}
 use Rattle.tiff_base.specs.lemmas.Seen.{apart_if, of_their_file_if}
 use Rattle.tiff_base.proofs.windows.Windows.in_order.Goals as goal

@@ -2,8 +2,7 @@ use Rattle.std.proofs.Common.{◌≡◌, ◌<◌, Some, Err, Bor, option_map, su
 use Rattle.std.proofs.lemmas.Result.{err_from_is_err_and}
 use Rattle.tiff_base.specs.Answers.{IsCause}
 use Rattle.tiff_base.specs.Field.{DirectoryRecord}
-use Rattle.tiff_page.specs.PageView as view
-use Rattle.tiff_decode.specs.Machine.{Decoding, decoding}
+use Rattle.tiff_decode.specs.Machine.{Decoding, from_fields}
 use Rattle.tiff_decode.specs.Outcome.{find_entry, find_tag_bytes}
 use Rattle.tiff_decode.specs.Reader.{reader_of}
 use Rattle.tiff_decode.proofs.Refusing.{tag_asked}
@@ -13,10 +12,7 @@ use Rattle.tiff_decode.proofs.decoder.Decoder.bytes_in.Goals as goal
 pub returns-in_err-n-clause-answer : goal.returns-in_err-n-clause-answer
 returns-in_err-n-clause-answer g c =
     let s = c.self.inside in
-    let d : Decoding =
-    decoding (g.R.Source.contents s.tags.source) s.tags.kind s.tags.order s.first
-    (g.R.Source.failures s.tags.source) s.standing.pointer s.standing.more
-    (view.page s.page) s.tags.directory s.offset s.tags.limits in
+    let d = from_fields g.R.Source.contents g.R.Source.failures s.tags s.first s.standing.pointer s.standing.more s.page s.offset in
     let other = option_map (λ (x : Bor DirectoryRecord). x.now) c.args.other in
     let answered = err_from_is_err_and c.from_residual.result c.from_residual.ensures.1 in
     let has =
@@ -31,9 +27,6 @@ returns-in_err-n-clause-answer g c =
 pub returns-in_err-n-clause-asked : goal.returns-in_err-n-clause-asked
 returns-in_err-n-clause-asked g c =
     let s = c.self.inside in
-    let d : Decoding =
-    decoding (g.R.Source.contents s.tags.source) s.tags.kind s.tags.order s.first
-    (g.R.Source.failures s.tags.source) s.standing.pointer s.standing.more
-    (view.page s.page) s.tags.directory s.offset s.tags.limits in
+    let d = from_fields g.R.Source.contents g.R.Source.failures s.tags s.first s.standing.pointer s.standing.more s.page s.offset in
     let answered = err_from_is_err_and c.from_residual.result c.from_residual.ensures.1 in
     rw (answered.1, answered.2) (tag_asked d _ (option_map (λ (x : Bor DirectoryRecord). x.now) c.args.other) c.args.tag c.in-Some.entry c.in_err-n.field-0.0 c.self.view_is (sym c.in-Some.ensures) c.in_err-n.ensures.asked)

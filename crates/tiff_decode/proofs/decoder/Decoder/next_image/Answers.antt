@@ -1,6 +1,5 @@
 use Rattle.std.proofs.Common.{Some, None, Err, false, refl, sym, ◌∙◌}
-use Rattle.tiff_page.specs.PageView as view
-use Rattle.tiff_decode.specs.Machine.{Decoding, decoding}
+use Rattle.tiff_decode.specs.Machine.{Decoding, from_fields}
 use Rattle.tiff_decode.specs.Outcome.{next_image}
 use Rattle.tiff_decode.proofs.Asked.{entered_page, last_is, next_behind, next_entry, none_asks}
 use Rattle.tiff_decode.specs.lemmas.ChainPosition.{offset_behind, next_known, next_read, next_closed, none_of, past_end, added_at, answered, unfailed, none_found, shown_open, told_same, stands_told, stays_refused}
@@ -9,10 +8,7 @@ use Rattle.tiff_decode.proofs.decoder.Decoder.next_image.Goals as goal
 pub returns-in-Some-clause-follows : goal.returns-in-Some-clause-follows
 returns-in-Some-clause-follows g c =
     let s = c.self.inside in
-    let d : Decoding =
-    decoding (g.R.Source.contents s.tags.source) s.tags.kind s.tags.order s.first
-    (g.R.Source.failures s.tags.source) s.standing.pointer s.standing.more
-    (view.page s.page) s.tags.directory s.offset s.tags.limits in
+    let d = from_fields g.R.Source.contents g.R.Source.failures s.tags s.first s.standing.pointer s.standing.more s.page s.offset in
     shown_open c.enter_offset.result d _ _ c.self.view_is (cc)
     (next_known c.enter_offset.result d _ s.walk s.standing.at c.following-at.result c.in-Some.offset c.self.invariant (cc) c.following-at.ensures.number
     (sym c.get-known.ensures ∙ c.in-Some.is) (c.enter_offset.ensures.follows s.first s.offset))
@@ -20,10 +16,7 @@ returns-in-Some-clause-follows g c =
 pub returns-in-Ok-Some-clause-follows : goal.returns-in-Ok-Some-clause-follows
 returns-in-Ok-Some-clause-follows g c =
     let s = c.self.inside in
-    let d : Decoding =
-    decoding (g.R.Source.contents s.tags.source) s.tags.kind s.tags.order s.first
-    (g.R.Source.failures s.tags.source) s.standing.pointer s.standing.more
-    (view.page s.page) s.tags.directory s.offset s.tags.limits in
+    let d = from_fields g.R.Source.contents g.R.Source.failures s.tags s.first s.standing.pointer s.standing.more s.page s.offset in
     let mid : Decoding =
     record d { bytes = (g.R.Source.contents c.enter_behind.new.source).bytes; readable = (g.R.Source.contents c.enter_behind.new.source).readable; failures = g.R.Source.failures c.enter_behind.new.source } in
     let e = rw c.in-Ok-Some.field-0-is at c.in-Ok-Some.ensures.entered in
@@ -37,10 +30,7 @@ returns-in-Ok-Some-clause-follows g c =
 pub returns-in-Ok-None-clause-follows : goal.returns-in-Ok-None-clause-follows
 returns-in-Ok-None-clause-follows g c =
     let s = c.self.inside in
-    let d : Decoding =
-    decoding (g.R.Source.contents s.tags.source) s.tags.kind s.tags.order s.first
-    (g.R.Source.failures s.tags.source) s.standing.pointer s.standing.more
-    (view.page s.page) s.tags.directory s.offset s.tags.limits in
+    let d = from_fields g.R.Source.contents g.R.Source.failures s.tags s.first s.standing.pointer s.standing.more s.page s.offset in
     let e = rw c.in-Ok-None.field-0-is at c.in-Ok-None.ensures.end in
     shown_open (Err c.into-in-Ok-None.result) d _ _ c.self.view_is (cc)
     (none_found c.into-in-Ok-None.result (next_image d) (record d.state { more = false }) d _ c.into-in-Ok-None.ensures
@@ -53,10 +43,7 @@ returns-in-Ok-None-clause-follows g c =
 pub returns-then-keeps_state-clause-follows : goal.returns-then-keeps_state-clause-follows
 returns-then-keeps_state-clause-follows g c =
     let s = c.self.inside in
-    let d : Decoding =
-    decoding (g.R.Source.contents s.tags.source) s.tags.kind s.tags.order s.first
-    (g.R.Source.failures s.tags.source) s.standing.pointer s.standing.more
-    (view.page s.page) s.tags.directory s.offset s.tags.limits in
+    let d = from_fields g.R.Source.contents g.R.Source.failures s.tags s.first s.standing.pointer s.standing.more s.page s.offset in
     shown_open (Err c.in-Err.fault) d _ _ c.self.view_is (cc)
     (stays_refused _ c.in-Err.fault (next_image d) d (g.R.Source.contents c.enter_behind.new.source) _ (sym c.keeps_state.ensures ∙ c.if-keeps_state.true)
     c.enter_behind.ensures.kept.contents c.in-Err.ensures.cut c.enter_behind.ensures.kept.failures c.in-Err.ensures.kept.swallowed)
@@ -64,10 +51,7 @@ returns-then-keeps_state-clause-follows g c =
 pub returns-in-Err-clause-follows : goal.returns-in-Err-clause-follows
 returns-in-Err-clause-follows g c =
     let s = c.self.inside in
-    let d : Decoding =
-    decoding (g.R.Source.contents s.tags.source) s.tags.kind s.tags.order s.first
-    (g.R.Source.failures s.tags.source) s.standing.pointer s.standing.more
-    (view.page s.page) s.tags.directory s.offset s.tags.limits in
+    let d = from_fields g.R.Source.contents g.R.Source.failures s.tags s.first s.standing.pointer s.standing.more s.page s.offset in
     shown_open (Err c.in-Err.fault) d _ _ c.self.view_is (cc)
     (answered _ _ _ c.in-Err.fault (next_image d) (record d.state { more = false }) d _ (sym c.keeps_state.ensures ∙ c.if-keeps_state.false) c.in-Err.ensures.cut
     (λ ends. next_closed d s.walk s.standing.at c.following-at.result (Some c.in-Err.fault) c.self.invariant (cc) c.following-at.ensures.number
@@ -82,10 +66,7 @@ returns-in-Err-clause-follows g c =
 pub returns-in-Some-clause-asked : goal.returns-in-Some-clause-asked
 returns-in-Some-clause-asked g c =
     let s = c.self.inside in
-    let d : Decoding =
-    decoding (g.R.Source.contents s.tags.source) s.tags.kind s.tags.order s.first
-    (g.R.Source.failures s.tags.source) s.standing.pointer s.standing.more
-    (view.page s.page) s.tags.directory s.offset s.tags.limits in
+    let d = from_fields g.R.Source.contents g.R.Source.failures s.tags s.first s.standing.pointer s.standing.more s.page s.offset in
     next_entry d _ (g.R.Source.contents s.tags.source) c.in-Some.offset c.enter_offset.result c.self.view_is refl
     (offset_behind d s.walk s.walk s.standing.at c.following-at.result c.in-Some.offset c.self.invariant (cc) c.following-at.ensures.number c.self.invariant.begins
     (sym c.get-known.ensures ∙ c.in-Some.is)) c.enter_offset.ensures.asked
@@ -93,10 +74,7 @@ returns-in-Some-clause-asked g c =
 pub returns-in-Ok-Some-clause-asked : goal.returns-in-Ok-Some-clause-asked
 returns-in-Ok-Some-clause-asked g c =
     let s = c.self.inside in
-    let d : Decoding =
-    decoding (g.R.Source.contents s.tags.source) s.tags.kind s.tags.order s.first
-    (g.R.Source.failures s.tags.source) s.standing.pointer s.standing.more
-    (view.page s.page) s.tags.directory s.offset s.tags.limits in
+    let d = from_fields g.R.Source.contents g.R.Source.failures s.tags s.first s.standing.pointer s.standing.more s.page s.offset in
     let e = rw c.in-Ok-Some.field-0-is at c.in-Ok-Some.ensures.entered in
     next_entry d _ (g.R.Source.contents s.tags.source) c.in-Ok-Some.offset c.enter_directory.result c.self.view_is refl
     (offset_behind d s.walk c.enter_behind.new.walk s.standing.at c.following-at.result c.in-Ok-Some.offset c.self.invariant (cc) c.following-at.ensures.number
@@ -109,10 +87,7 @@ returns-in-Ok-Some-clause-asked g c =
 pub returns-then-keeps_state-clause-asked : goal.returns-then-keeps_state-clause-asked
 returns-then-keeps_state-clause-asked g c =
     let s = c.self.inside in
-    let d : Decoding =
-    decoding (g.R.Source.contents s.tags.source) s.tags.kind s.tags.order s.first
-    (g.R.Source.failures s.tags.source) s.standing.pointer s.standing.more
-    (view.page s.page) s.tags.directory s.offset s.tags.limits in
+    let d = from_fields g.R.Source.contents g.R.Source.failures s.tags s.first s.standing.pointer s.standing.more s.page s.offset in
     next_behind d _ (g.R.Source.contents s.tags.source) s.walk c.in-Err.fault c.self.view_is refl c.self.invariant.begins
     (last_is s.walk.offsets s.standing.pointer s.standing.at c.following-at.result c.self.invariant.stands c.following-at.ensures.number
     (past_end s.walk.offsets c.following-at.result (sym c.get-known.ensures ∙ none_of c.get-known.result c.in_default.not-Some))) c.in-Err.ensures.asked
@@ -120,10 +95,7 @@ returns-then-keeps_state-clause-asked g c =
 pub returns-in-Err-clause-asked : goal.returns-in-Err-clause-asked
 returns-in-Err-clause-asked g c =
     let s = c.self.inside in
-    let d : Decoding =
-    decoding (g.R.Source.contents s.tags.source) s.tags.kind s.tags.order s.first
-    (g.R.Source.failures s.tags.source) s.standing.pointer s.standing.more
-    (view.page s.page) s.tags.directory s.offset s.tags.limits in
+    let d = from_fields g.R.Source.contents g.R.Source.failures s.tags s.first s.standing.pointer s.standing.more s.page s.offset in
     next_behind d _ (g.R.Source.contents s.tags.source) s.walk c.in-Err.fault c.self.view_is refl c.self.invariant.begins
     (last_is s.walk.offsets s.standing.pointer s.standing.at c.following-at.result c.self.invariant.stands c.following-at.ensures.number
     (past_end s.walk.offsets c.following-at.result (sym c.get-known.ensures ∙ none_of c.get-known.result c.in_default.not-Some))) c.in-Err.ensures.asked

@@ -1,7 +1,6 @@
 use Rattle.std.proofs.Common.{Err, refl, sym, ◌∙◌}
 use Rattle.tiff_base.specs.lemmas.Contents.{same_bytes}
-use Rattle.tiff_page.specs.PageView as view
-use Rattle.tiff_decode.specs.Machine.{State, Decoding, decoding}
+use Rattle.tiff_decode.specs.Machine.{State, Decoding, from_fields}
 use Rattle.tiff_decode.specs.Outcome.{seek_to_image}
 use Rattle.tiff_decode.proofs.Asked.{none_asks, sought_entry, sought_past, sought_way}
 use Rattle.tiff_decode.specs.lemmas.ChainPosition.{none_found, seek_cut, seek_known, seek_past, along_on, stands_longer, stands_told, stays_refused, shown, told_same, unfailed}
@@ -47,10 +46,7 @@ invariant_of-self-in-Err g c =
 pub returns-in-Ok-Some-clause-follows : goal.returns-in-Ok-Some-clause-follows
 returns-in-Ok-Some-clause-follows g c =
     let s = c.self.inside in
-    let d : Decoding =
-    decoding (g.R.Source.contents s.tags.source) s.tags.kind s.tags.order s.first
-    (g.R.Source.failures s.tags.source) s.standing.pointer s.standing.more
-    (view.page s.page) s.tags.directory s.offset s.tags.limits in
+    let d = from_fields g.R.Source.contents g.R.Source.failures s.tags s.first s.standing.pointer s.standing.more s.page s.offset in
     let mid : Decoding =
     record d { bytes = (g.R.Source.contents c.offset_of.new.source).bytes; readable = (g.R.Source.contents c.offset_of.new.source).readable; failures = g.R.Source.failures c.offset_of.new.source } in
     let h = rw c.in-Ok-Some.field-0-is at c.in-Ok-Some.ensures.offset in
@@ -61,10 +57,7 @@ returns-in-Ok-Some-clause-follows g c =
 pub returns-in-Ok-None-clause-follows : goal.returns-in-Ok-None-clause-follows
 returns-in-Ok-None-clause-follows g c =
     let s = c.self.inside in
-    let d : Decoding =
-    decoding (g.R.Source.contents s.tags.source) s.tags.kind s.tags.order s.first
-    (g.R.Source.failures s.tags.source) s.standing.pointer s.standing.more
-    (view.page s.page) s.tags.directory s.offset s.tags.limits in
+    let d = from_fields g.R.Source.contents g.R.Source.failures s.tags s.first s.standing.pointer s.standing.more s.page s.offset in
     let past = c.past-self-inside in
     let next : State = record d.state { pointer = past.result.pointer; more = past.result.more } in
     let none = rw c.in-Ok-None.field-0-is at c.in-Ok-None.ensures.offset in
@@ -78,10 +71,7 @@ returns-in-Ok-None-clause-follows g c =
 pub returns-then-keeps_state-clause-follows : goal.returns-then-keeps_state-clause-follows
 returns-then-keeps_state-clause-follows g c =
     let s = c.self.inside in
-    let d : Decoding =
-    decoding (g.R.Source.contents s.tags.source) s.tags.kind s.tags.order s.first
-    (g.R.Source.failures s.tags.source) s.standing.pointer s.standing.more
-    (view.page s.page) s.tags.directory s.offset s.tags.limits in
+    let d = from_fields g.R.Source.contents g.R.Source.failures s.tags s.first s.standing.pointer s.standing.more s.page s.offset in
     shown (λ x. seek_to_image x c.args.ifd_index) (Err c.in-Err.fault) d _ _ c.self.view_is
     (stays_refused _ c.in-Err.fault (seek_to_image d c.args.ifd_index) d (g.R.Source.contents c.offset_of.new.source) _ (sym c.keeps_state.ensures ∙ c.if-keeps_state.true)
     c.offset_of.ensures.kept.contents c.in-Err.ensures.cut c.offset_of.ensures.kept.failures c.in-Err.ensures.kept.swallowed)
@@ -89,10 +79,7 @@ returns-then-keeps_state-clause-follows g c =
 pub returns-in-Err-clause-follows : goal.returns-in-Err-clause-follows
 returns-in-Err-clause-follows g c =
     let s = c.self.inside in
-    let d : Decoding =
-    decoding (g.R.Source.contents s.tags.source) s.tags.kind s.tags.order s.first
-    (g.R.Source.failures s.tags.source) s.standing.pointer s.standing.more
-    (view.page s.page) s.tags.directory s.offset s.tags.limits in
+    let d = from_fields g.R.Source.contents g.R.Source.failures s.tags s.first s.standing.pointer s.standing.more s.page s.offset in
     let past = c.past-self-inside-in-Err in
     let next : State = record d.state { pointer = past.result.pointer; more = past.result.more } in
     let moves = sym c.keeps_state.ensures ∙ c.if-keeps_state.false in
@@ -106,10 +93,7 @@ returns-in-Err-clause-follows g c =
 pub returns-in-Ok-Some-clause-asked : goal.returns-in-Ok-Some-clause-asked
 returns-in-Ok-Some-clause-asked g c =
     let s = c.self.inside in
-    let d : Decoding =
-    decoding (g.R.Source.contents s.tags.source) s.tags.kind s.tags.order s.first
-    (g.R.Source.failures s.tags.source) s.standing.pointer s.standing.more
-    (view.page s.page) s.tags.directory s.offset s.tags.limits in
+    let d = from_fields g.R.Source.contents g.R.Source.failures s.tags s.first s.standing.pointer s.standing.more s.page s.offset in
     let h = rw c.in-Ok-Some.field-0-is at c.in-Ok-Some.ensures.offset in
     sought_entry d _ (g.R.Source.contents c.offset_of.new.source) c.args.ifd_index c.in-Ok-Some.offset c.enter_offset.result c.self.view_is c.offset_of.ensures.kept.contents
     (h s.first c.self.invariant.begins) c.enter_offset.ensures.asked
@@ -117,10 +101,7 @@ returns-in-Ok-Some-clause-asked g c =
 pub returns-then-keeps_state-clause-asked : goal.returns-then-keeps_state-clause-asked
 returns-then-keeps_state-clause-asked g c =
     let s = c.self.inside in
-    let d : Decoding =
-    decoding (g.R.Source.contents s.tags.source) s.tags.kind s.tags.order s.first
-    (g.R.Source.failures s.tags.source) s.standing.pointer s.standing.more
-    (view.page s.page) s.tags.directory s.offset s.tags.limits in
+    let d = from_fields g.R.Source.contents g.R.Source.failures s.tags s.first s.standing.pointer s.standing.more s.page s.offset in
     sought_way d _ c.args.ifd_index c.in-Err.fault c.self.view_is
     (c.in-Err.ensures.asked s.first c.self.invariant.begins)
 
@@ -130,8 +111,5 @@ returns-in-Ok-None-clause-asked g c = none_asks c.into.result c.into.ensures
 pub returns-in-Err-clause-asked : goal.returns-in-Err-clause-asked
 returns-in-Err-clause-asked g c =
     let s = c.self.inside in
-    let d : Decoding =
-    decoding (g.R.Source.contents s.tags.source) s.tags.kind s.tags.order s.first
-    (g.R.Source.failures s.tags.source) s.standing.pointer s.standing.more
-    (view.page s.page) s.tags.directory s.offset s.tags.limits in
+    let d = from_fields g.R.Source.contents g.R.Source.failures s.tags s.first s.standing.pointer s.standing.more s.page s.offset in
     sought_past d _ c.args.ifd_index c.in-Err.fault c.shown_fault.result s.standing.more c.self.view_is (c.in-Err.ensures.asked s.first c.self.invariant.begins) c.shown_fault.ensures

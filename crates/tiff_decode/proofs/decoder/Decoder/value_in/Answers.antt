@@ -1,4 +1,4 @@
-use Rattle.std.proofs.Common.{◌≡◌, ◌<◌, ◌≤◌, Bor, Err, ℕ, Ok, Option, Result, option_map, rules, subst, arith}
+use Rattle.std.proofs.Common.{◌<◌, Bor, Err, Ok, Option, Result, option_map, rules, subst}
 use Rattle.std.specs.FinMap.{get}
 use Rattle.tiff_base.specs.Answers.{AnswersBut}
 use Rattle.tiff_base.specs.Tags.{tag_number}
@@ -11,7 +11,7 @@ use Rattle.tiff_ifd.specs.View.{plain_value}
 use Rattle.tiff_ifd.specs.TagLookup.{look_in}
 use Rattle.tiff_ifd.specs.lemmas.Within.{look_within}
 use Rattle.tiff_page.specs.PageView as view
-use Rattle.tiff_decode.specs.Machine.{Decoding, decoding}
+use Rattle.tiff_decode.specs.Machine.{Decoding, decoding, from_fields}
 use Rattle.tiff_decode.specs.Outcome.{WantsTag, find_tag}
 use Rattle.tiff_decode.specs.Reader.{directory_or, reader_of, TagsRead}
 use Rattle.tiff_decode.proofs.decoder.Decoder.value_in.Goals as goal
@@ -27,10 +27,7 @@ pub returns-clause-read : goal.returns-clause-read
 unfolding find_tag look_in
 returns-clause-read g c =
     let s = c.self.inside in
-    let d : Decoding =
-    decoding (g.R.Source.contents s.tags.source) s.tags.kind s.tags.order s.first
-    (g.R.Source.failures s.tags.source) s.standing.pointer s.standing.more
-    (view.page s.page) s.tags.directory s.offset s.tags.limits in
+    let d = from_fields g.R.Source.contents g.R.Source.failures s.tags s.first s.standing.pointer s.standing.more s.page s.offset in
     let other = option_map (λ (x : Bor DirectoryRecord). x.now) c.args.other in
     let new : Decoding =
     decoding (g.R.Source.contents c.find_value.new.source) s.tags.kind s.tags.order s.first

@@ -1,17 +1,9 @@
-use Rattle.std.proofs.Common.{rules}
 use Rattle.tiff_ifd.specs.Into.{into_u32}
-use Rattle.tiff_decode.specs.Outcome.{get_tag, get_tag_u32, page_tags}
-use Rattle.tiff_decode.specs.Reader.{reading}
-use Rattle.tiff_decode.proofs.Required.{converted, none_failed}
+use Rattle.tiff_decode.specs.Outcome.{get_tag_u32}
+use Rattle.tiff_decode.proofs.Required.{converted_reading}
 use Rattle.tiff_decode.proofs.ifd_decoder.IfdDecoder.get_tag_u32.Goals as goal
 
 pub returns-clause-read : goal.returns-clause-read
-unfolding get_tag get_tag_u32
-returns-clause-read g c = record {
-  answer = converted ⊥ _ _ into_u32 (page_tags (reading c.args.self.now)) c.args.tag _ c.into_u32.result c.in_ok-get_tag.ensures.read.answer c.into_u32.ensures;
-  kept = record {
-    held = search rules;
-    other = search rules;
-    swallowed = none_failed c.into_u32.result c.in_ok-get_tag.ensures.read.kept.swallowed;
-  };
-}
+unfolding get_tag_u32
+returns-clause-read g c =
+    converted_reading ⊥ _ _ into_u32 c.args.tag _ c.into_u32.result c.args.self.now _ c.in_ok-get_tag.ensures.read c.into_u32.ensures

@@ -2,7 +2,7 @@ use Rattle.std.proofs.Common.{◌≡◌, ◌-◌, length, None, ap, sym, ◌∙�
 use Rattle.tiff_base.specs.Field.{AreEntries}
 use Rattle.tiff_encode.specs.Machine.{OpenDirectory}
 use Rattle.tiff_encode.specs.FileWrites.{file_with_bytes}
-use Rattle.tiff_encode.specs.FileBytes.{offset_len, directory_bytes}
+use Rattle.tiff_value.specs.FileBytes.{offset_len, directory_bytes}
 use Rattle.tiff_encode.proofs.Ending.{own_link_is, own_link_within}
 use Rattle.tiff_encode.proofs.encoder.TiffEncoder.append_listed.Goals as goal
 

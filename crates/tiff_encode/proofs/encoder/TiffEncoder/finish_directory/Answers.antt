@@ -1,7 +1,7 @@
 use Rattle.std.proofs.Common.{rules, ap, sym, ◌∙◌}
 use Rattle.tiff_encode.specs.Causes.{is_past}
 use Rattle.tiff_encode.specs.Machine.{OpenDirectory}
-use Rattle.tiff_encode.specs.FileBytes.{directory_bytes}
+use Rattle.tiff_value.specs.FileBytes.{directory_bytes}
 use Rattle.tiff_encode.proofs.Runs.{near}
 use Rattle.tiff_encode.proofs.Ending.{within_grown, end_refused, end_unlisted, end_torn, end_done}
 use Rattle.tiff_encode.proofs.encoder.TiffEncoder.finish_directory.Goals as goal

@@ -1,5 +1,5 @@
 use Rattle.std.proofs.Common.{◌∙◌, ap}
-use Rattle.tiff_encode.specs.FileBytes.{offset_len}
+use Rattle.tiff_value.specs.FileBytes.{offset_len}
 use Rattle.tiff_encode.proofs.Leaves.{leaves_header}
 use Rattle.tiff_encode.proofs.encoder.TiffEncoder.new_generic.Goals as goal
 

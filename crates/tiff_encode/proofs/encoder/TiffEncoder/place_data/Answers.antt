@@ -1,6 +1,6 @@
 use Rattle.std.proofs.Common.{rules, Err, refl, ◌∙◌}
 use Rattle.tiff_base.specs.declared.error.TiffError.TheVariants.{OutOfMemory}
-use Rattle.tiff_encode.specs.Value.{data_in}
+use Rattle.tiff_value.specs.Fields.{data_in}
 use Rattle.tiff_encode.specs.Calls.{placed_field}
 use Rattle.tiff_encode.specs.Causes.{field_cause}
 use Rattle.tiff_encode.proofs.Calling.{refused, uncaused, wanting, data_test, data_placed}

@@ -6,7 +6,8 @@ use Rattle.tiff_encode.specs.Calls.{write_entry_buf}
 use Rattle.tiff_encode.specs.Ends.{Ends}
 use Rattle.tiff_encode.specs.JobValues.{buffer_in}
 use Rattle.tiff_encode.proofs.Joining.{entry_buf_adds}
-use Rattle.tiff_encode.proofs.Guarding.{Lent, entry_left}
+use Rattle.tiff_encode.specs.GivenValues.{Lent}
+use Rattle.tiff_encode.proofs.Guarding.{entry_left}
 use Rattle.tiff_encode.proofs.Keeping.{failed_leaves}
 use Rattle.tiff_encode.proofs.encoder.TiffEncoder.place_job_buffer.Goals as goal
 

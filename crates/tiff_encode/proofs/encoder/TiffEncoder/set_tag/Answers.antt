@@ -1,6 +1,6 @@
 use Rattle.std.proofs.Common.{refl}
 use Rattle.tiff_encode.specs.Machine.{OpenDirectory}
-use Rattle.tiff_encode.proofs.Guarding.{Given}
+use Rattle.tiff_encode.specs.GivenValues.{Given}
 use Rattle.tiff_encode.proofs.Rooms.{room_kept, settled_stays, settled_ends}
 use Rattle.tiff_encode.proofs.encoder.TiffEncoder.set_tag.Goals as goal
 

@@ -5,7 +5,7 @@ use Rattle.tiff_value.specs.Data.{FieldData}
 use Rattle.tiff_encode.specs.Calls.{with_field}
 use Rattle.tiff_encode.specs.Machine.{OpenDirectory}
 use Rattle.tiff_encode.specs.Rooms.{IsSettled}
-use Rattle.tiff_encode.proofs.Guarding.{Given}
+use Rattle.tiff_encode.specs.GivenValues.{Given}
 use Rattle.tiff_encode.proofs.Rooms.{room_kept, settled_stays, settled_ends}
 use Rattle.tiff_encode.proofs.Tagging.{kept_ends}
 use Rattle.tiff_encode.proofs.encoder.TiffEncoder.set_value.Goals as goal

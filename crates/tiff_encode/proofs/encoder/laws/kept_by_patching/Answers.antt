@@ -1,4 +1,4 @@
-use Rattle.tiff_encode.specs.lemmas.Kept.{kept_by_patching}
+use Rattle.tiff_value.specs.lemmas.File.Kept.{kept_by_patching}
 use Rattle.tiff_encode.proofs.encoder.laws.kept_by_patching.Goals as goal
 
 pub returns : goal.returns

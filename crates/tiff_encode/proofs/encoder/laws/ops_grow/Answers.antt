@@ -1,4 +1,4 @@
-use Rattle.tiff_encode.proofs.WriteOps.{ops_grow}
+use Rattle.tiff_value.specs.lemmas.File.WriteOps.{ops_grow}
 use Rattle.tiff_encode.proofs.encoder.laws.ops_grow.Goals as goal
 
 pub returns : goal.returns

@@ -31,8 +31,8 @@ run_job-reply-requires g c =
     room_taken jobs c.loop-job.rooms.items c.take_last-room.new.items.items c.take_last-room.result c.take_last-room.ensures.items n
     c.job-item.result c.loop-job-test.true c.job-item.is count i.rooms
 
-pub put-requires : goal.put-requires
-put-requires g c = omega (arith, c.loop-job.invariant.room, c.loop-job-test.true)
+pub push_reserved-requires : goal.push_reserved-requires
+push_reserved-requires g c = omega (arith, c.loop-job.invariant.room, c.loop-job-test.true)
 
 pub loop-job-preserved : goal.loop-job-preserved
 loop-job-preserved g c =
@@ -44,16 +44,16 @@ loop-job-preserved g c =
     omega (arith, c.len-start.ensures, c.args.replies.now.ok) in
     record {
       moved =
-          jobs_next jobs c.args.replies.now.items c.loop-job.replies.items c.put.new.items.items start n c.job-item.result
+          jobs_next jobs c.args.replies.now.items c.loop-job.replies.items c.push_reserved.new.self.items start n c.job-item.result
           c.run_job-reply.result c.args.encoder.now c.loop-job.encoder c.run_job-reply.new.encoder c.loop-job-test.true c.job-item.is at
-          c.put.ensures.items i.moved
+          c.push_reserved.ensures.items i.moved
           (subst (λ xs. JobMoves c.job-item.result xs c.run_job-reply.result c.loop-job.encoder c.run_job-reply.new.encoder)
           (replies_from c.deref.result.now c.loop-job.replies.items start c.deref.ensures.value) c.run_job-reply.ensures);
       count = omega (arith, i.count, c.take_last-room.ensures.len);
       rooms =
           rooms_left jobs c.loop-job.rooms.items c.take_last-room.new.items.items c.take_last-room.result c.take_last-room.ensures.items i.rooms;
-      room = omega (arith, i.room, c.put.ensures.len, c.put.ensures.capacity, c.loop-job-test.true);
-      behind = omega (arith, i.behind, c.put.ensures.len);
+      room = omega (arith, i.room, c.push_reserved.ensures.len, c.push_reserved.ensures.capacity, c.loop-job-test.true);
+      behind = omega (arith, i.behind, c.push_reserved.ensures.len);
     }
 
 pub returns : goal.returns

@@ -1,6 +1,6 @@
 use Rattle.std.proofs.Common.{rules}
 use Rattle.tiff_base.specs.declared.tags.FileKind.TheVariants.{Big}
-use Rattle.tiff_encode.proofs.Headers.{header_written, mark_fails, link_fails}
+use Rattle.tiff_value.specs.lemmas.File.Headers.{header_written, mark_fails, link_fails}
 use Rattle.tiff_encode.proofs.encoder.kind.TiffKindBigTiffKind.write_header.Goals as goal
 
 pub returns-in_err-write_bigtiff_header : goal.returns-in_err-write_bigtiff_header

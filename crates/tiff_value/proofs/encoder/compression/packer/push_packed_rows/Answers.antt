@@ -1,4 +1,4 @@
-use Rattle.std.proofs.Common.{ℕ, List, ◌≡◌, ◌<◌, ◌%◌, length, sym, ap, ◌∙◌, subst}
+use Rattle.std.proofs.Common.{ℕ, List, ◌<◌, ◌%◌, length, ap, ◌∙◌, subst}
 use Rattle.std.specs.Slice.Iter.{chunks_exact_rest, chunks_exact_size}
 use Rattle.tiff_value.specs.lemmas.PackedRows.{no_rows, row_next, all_rows, none_left, whole_left}
 use Rattle.tiff_value.proofs.encoder.compression.packer.push_packed_rows.Goals as goal

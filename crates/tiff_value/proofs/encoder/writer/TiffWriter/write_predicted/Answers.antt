@@ -11,9 +11,9 @@ pub returns-in_default : goal.returns-in_default
 returns-in_default g c =
     let size = type_size g.T.TiffValue.value_type in
     let num = sample_number size g.T.Sample.bits in
-    let samples = c.args.samples.now in
+    let samples = c.args.rows.samples.now in
     let fresh : c.args.self.now.fault ≡ None =
     sym (ap (λ w. w.fault) c.self.view_is) ∙ rw c.if-self.false refl in
     told_raw c.write_unpredicted.result _ _ c.args.self.now c.write_unpredicted.new.self fresh
-    (ap (flat_map (le size)) (sym (left_plain c.args.predictor (256 ^ size) c.args.row c.args.stride (map num samples) c.in_default.not-Horizontal)))
+    (ap (flat_map (le size)) (sym (left_plain c.args.rows.predictor (256 ^ size) c.args.rows.row c.args.rows.stride (map num samples) c.in_default.not-Horizontal)))
     c.write_unpredicted.ensures

@@ -28,24 +28,24 @@ returns-in_err-write_job_tag-in-WriteTag-clause-moves g c =
     (unchanged d e (calls.write_tag d c.in-WriteTag.tag (value_data c.in-WriteTag.value)) c.in_err-write_job_tag-in-WriteTag.field-0.0
     (tag_adds d c.in-WriteTag.tag (value_data c.in-WriteTag.value) c.args.self.now.encoder.now) h.answer h.leaves (ap g.D.HasDirectory.open_directory h.stays)))
 
-pub returns-in_ok-write_job_tag_buf-in-WriteTagBuf-clause-moves : goal.returns-in_ok-write_job_tag_buf-in-WriteTagBuf-clause-moves
-returns-in_ok-write_job_tag_buf-in-WriteTagBuf-clause-moves g c =
+pub returns-in_ok-write_job_tag-in-WriteTagBuf-clause-moves : goal.returns-in_ok-write_job_tag-in-WriteTagBuf-clause-moves
+returns-in_ok-write_job_tag-in-WriteTagBuf-clause-moves g c =
     let d = g.D.HasDirectory.open_directory c.args.self.now.state in
-    let e = g.D.HasDirectory.open_directory c.write_job_tag_buf.new.self.state in
-    let h = c.in_ok-write_job_tag_buf-in-WriteTagBuf.ensures in
+    let e = g.D.HasDirectory.open_directory c.write_job_tag-in-WriteTagBuf.new.self.state in
+    let h = c.in_ok-write_job_tag-in-WriteTagBuf.ensures in
     stepped_by d e (Ok reply.Nothing) c.in-WriteTagBuf.is
     (changed d e (calls.write_tag_buf d c.in-WriteTagBuf.tag (buffer_in c.in-WriteTagBuf.buffer))
     (tag_buf_adds d c.in-WriteTagBuf.tag (buffer_in c.in-WriteTagBuf.buffer) c.args.self.now.encoder.now) h.answer h.leaves)
 
-pub returns-in_err-write_job_tag_buf-in-WriteTagBuf-clause-moves : goal.returns-in_err-write_job_tag_buf-in-WriteTagBuf-clause-moves
-returns-in_err-write_job_tag_buf-in-WriteTagBuf-clause-moves g c =
+pub returns-in_err-write_job_tag-in-WriteTagBuf-clause-moves : goal.returns-in_err-write_job_tag-in-WriteTagBuf-clause-moves
+returns-in_err-write_job_tag-in-WriteTagBuf-clause-moves g c =
     let p =
-    err_from_is_err_and c.from_residual-in_err-write_job_tag_buf-in-WriteTagBuf.result c.from_residual-in_err-write_job_tag_buf-in-WriteTagBuf.ensures.1 in
+    err_from_is_err_and c.from_residual-in_err-write_job_tag-in-WriteTagBuf.result c.from_residual-in_err-write_job_tag-in-WriteTagBuf.ensures.1 in
     let d = g.D.HasDirectory.open_directory c.args.self.now.state in
-    let e = g.D.HasDirectory.open_directory c.write_job_tag_buf.new.self.state in
-    let h = c.in_err-write_job_tag_buf-in-WriteTagBuf.ensures in
-    rw (p.1, p.2) (stepped_by d e (Err c.in_err-write_job_tag_buf-in-WriteTagBuf.field-0.0) c.in-WriteTagBuf.is
-    (unchanged d e (calls.write_tag_buf d c.in-WriteTagBuf.tag (buffer_in c.in-WriteTagBuf.buffer)) c.in_err-write_job_tag_buf-in-WriteTagBuf.field-0.0
+    let e = g.D.HasDirectory.open_directory c.write_job_tag-in-WriteTagBuf.new.self.state in
+    let h = c.in_err-write_job_tag-in-WriteTagBuf.ensures in
+    rw (p.1, p.2) (stepped_by d e (Err c.in_err-write_job_tag-in-WriteTagBuf.field-0.0) c.in-WriteTagBuf.is
+    (unchanged d e (calls.write_tag_buf d c.in-WriteTagBuf.tag (buffer_in c.in-WriteTagBuf.buffer)) c.in_err-write_job_tag-in-WriteTagBuf.field-0.0
     (tag_buf_adds d c.in-WriteTagBuf.tag (buffer_in c.in-WriteTagBuf.buffer) c.args.self.now.encoder.now) h.answer h.leaves (ap g.D.HasDirectory.open_directory h.stays)))
 
 pub returns-in_ok-offset-in-WriteData-clause-moves : goal.returns-in_ok-offset-in-WriteData-clause-moves

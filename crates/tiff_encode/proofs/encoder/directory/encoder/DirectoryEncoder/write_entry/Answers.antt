@@ -1,6 +1,7 @@
 use Rattle.std.proofs.Common.{rules}
 use Rattle.tiff_encode.proofs.Joining.{entry_adds}
-use Rattle.tiff_encode.proofs.Guarding.{Given, entry_left}
+use Rattle.tiff_encode.specs.GivenValues.{Given}
+use Rattle.tiff_encode.proofs.Guarding.{entry_left}
 use Rattle.tiff_encode.proofs.Keeping.{failed_leaves}
 use Rattle.tiff_encode.proofs.encoder.directory.encoder.DirectoryEncoder.write_entry.Goals as goal
 

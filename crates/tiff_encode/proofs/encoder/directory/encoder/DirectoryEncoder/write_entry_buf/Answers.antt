@@ -1,6 +1,7 @@
 use Rattle.std.proofs.Common.{rules}
 use Rattle.tiff_encode.proofs.Joining.{entry_buf_adds}
-use Rattle.tiff_encode.proofs.Guarding.{Lent, entry_left}
+use Rattle.tiff_encode.specs.GivenValues.{Lent}
+use Rattle.tiff_encode.proofs.Guarding.{entry_left}
 use Rattle.tiff_encode.proofs.Keeping.{failed_leaves}
 use Rattle.tiff_encode.proofs.encoder.directory.encoder.DirectoryEncoder.write_entry_buf.Goals as goal
 

@@ -1,6 +1,7 @@
 use Rattle.std.proofs.Common.{rules, arith}
 use Rattle.tiff_encode.proofs.Joining.{entry_bytes_adds}
-use Rattle.tiff_encode.proofs.Guarding.{Bytes, entry_left}
+use Rattle.tiff_encode.specs.GivenValues.{Bytes}
+use Rattle.tiff_encode.proofs.Guarding.{entry_left}
 use Rattle.tiff_encode.proofs.Keeping.{failed_leaves}
 use Rattle.tiff_encode.proofs.encoder.directory.encoder.DirectoryEncoder.write_entry_bytes.Goals as goal
 

@@ -1,5 +1,4 @@
-use Rattle.tiff_encode.specs.JobValues.{value_data}
-use Rattle.tiff_encode.proofs.Guarding.{Given}
+use Rattle.tiff_encode.specs.JobValues.{given_in}
 use Rattle.tiff_encode.proofs.Rooms.{room_kept, settled_stays, settled_rest, settled_ends, settled_leaves}
 use Rattle.tiff_encode.proofs.encoder.directory.encoder.DirectoryEncoder.write_job_tag.Goals as goal
 
@@ -7,29 +6,29 @@ pub returns-clause-stays : goal.returns-clause-stays
 returns-clause-stays g c =
     let settled =
     c.settle.ensures c.args.self.now.state c.make_room-room.ensures.state c.make_room-room.ensures.room
-    (room_kept c.make_room-room.result c.is_made.result c.place_job_value-placed.result c.args.self.now.encoder.now c.place_job_value-placed.new.self c.is_made.ensures c.place_job_value-placed.ensures.room) in
-    settled_stays g.D.HasDirectory.open_directory g.D.HasDirectory.with_directory g.met.D.HasDirectory.given_directory g.met.D.HasDirectory.with_its_own c.args.self.now.state c.settle.new.self c.args.tag c.place_job_value-placed.result c.settle.result settled
+    (room_kept c.make_room-room.result c.is_made.result c.place_job-placed.result c.args.self.now.encoder.now c.place_job-placed.new.self c.is_made.ensures c.place_job-placed.ensures.room) in
+    settled_stays g.D.HasDirectory.open_directory g.D.HasDirectory.with_directory g.met.D.HasDirectory.given_directory g.met.D.HasDirectory.with_its_own c.args.self.now.state c.settle.new.self c.args.tag c.place_job-placed.result c.settle.result settled
 
 pub returns-clause-rest : goal.returns-clause-rest
 returns-clause-rest g c =
     let settled =
     c.settle.ensures c.args.self.now.state c.make_room-room.ensures.state c.make_room-room.ensures.room
-    (room_kept c.make_room-room.result c.is_made.result c.place_job_value-placed.result c.args.self.now.encoder.now c.place_job_value-placed.new.self c.is_made.ensures c.place_job_value-placed.ensures.room) in
-    settled_rest g.D.HasDirectory.open_directory g.D.HasDirectory.with_directory g.met.D.HasDirectory.given_directory g.met.D.HasDirectory.with_its_own c.args.self.now.state c.settle.new.self c.args.tag c.place_job_value-placed.result c.settle.result settled
+    (room_kept c.make_room-room.result c.is_made.result c.place_job-placed.result c.args.self.now.encoder.now c.place_job-placed.new.self c.is_made.ensures c.place_job-placed.ensures.room) in
+    settled_rest g.D.HasDirectory.open_directory g.D.HasDirectory.with_directory g.met.D.HasDirectory.given_directory g.met.D.HasDirectory.with_its_own c.args.self.now.state c.settle.new.self c.args.tag c.place_job-placed.result c.settle.result settled
 
 pub returns-clause-answer : goal.returns-clause-answer
 returns-clause-answer g c =
     let settled =
     c.settle.ensures c.args.self.now.state c.make_room-room.ensures.state c.make_room-room.ensures.room
-    (room_kept c.make_room-room.result c.is_made.result c.place_job_value-placed.result c.args.self.now.encoder.now c.place_job_value-placed.new.self c.is_made.ensures c.place_job_value-placed.ensures.room) in
-    settled_ends g.D.HasDirectory.open_directory g.D.HasDirectory.with_directory g.met.D.HasDirectory.given_directory g.met.D.HasDirectory.with_its_own c.args.self.now.state c.settle.new.self c.args.tag c.place_job_value-placed.result
-    (Given (value_data c.args.value.now)) c.args.self.now.encoder.now c.place_job_value-placed.new.self c.place_job_value-placed.ensures.answer c.settle.result settled
+    (room_kept c.make_room-room.result c.is_made.result c.place_job-placed.result c.args.self.now.encoder.now c.place_job-placed.new.self c.is_made.ensures c.place_job-placed.ensures.room) in
+    settled_ends g.D.HasDirectory.open_directory g.D.HasDirectory.with_directory g.met.D.HasDirectory.given_directory g.met.D.HasDirectory.with_its_own c.args.self.now.state c.settle.new.self c.args.tag c.place_job-placed.result
+    (given_in c.args.field) c.args.self.now.encoder.now c.place_job-placed.new.self c.place_job-placed.ensures.answer c.settle.result settled
 
 pub returns-clause-leaves : goal.returns-clause-leaves
 returns-clause-leaves g c m s =
     let settled =
     c.settle.ensures c.args.self.now.state c.make_room-room.ensures.state c.make_room-room.ensures.room
-    (room_kept c.make_room-room.result c.is_made.result c.place_job_value-placed.result c.args.self.now.encoder.now c.place_job_value-placed.new.self c.is_made.ensures c.place_job_value-placed.ensures.room) in
-    settled_leaves g.D.HasDirectory.open_directory g.D.HasDirectory.with_directory g.met.D.HasDirectory.given_directory g.met.D.HasDirectory.with_its_own c.args.self.now.state c.settle.new.self c.args.tag c.place_job_value-placed.result
-    (Given (value_data c.args.value.now)) c.args.self.now.encoder.now c.place_job_value-placed.new.self c.place_job_value-placed.ensures.answer c.settle.result m
-    (c.place_job_value-placed.ensures.leaves m s) settled
+    (room_kept c.make_room-room.result c.is_made.result c.place_job-placed.result c.args.self.now.encoder.now c.place_job-placed.new.self c.is_made.ensures c.place_job-placed.ensures.room) in
+    settled_leaves g.D.HasDirectory.open_directory g.D.HasDirectory.with_directory g.met.D.HasDirectory.given_directory g.met.D.HasDirectory.with_its_own c.args.self.now.state c.settle.new.self c.args.tag c.place_job-placed.result
+    (given_in c.args.field) c.args.self.now.encoder.now c.place_job-placed.new.self c.place_job-placed.ensures.answer c.settle.result m
+    (c.place_job-placed.ensures.leaves m s) settled

@@ -1,4 +1,5 @@
-use Rattle.tiff_encode.proofs.Guarding.{Given, entry_leaves}
+use Rattle.tiff_encode.specs.GivenValues.{Given}
+use Rattle.tiff_encode.proofs.Guarding.{entry_leaves}
 use Rattle.tiff_encode.proofs.Rooms.{room_kept, settled_stays, settled_rest, settled_ends, settled_leaves, settled_unwritten}
 use Rattle.tiff_encode.proofs.encoder.directory.encoder.DirectoryEncoder.write_tag.Goals as goal
 

@@ -1,7 +1,7 @@
 use Rattle.std.proofs.Common.{◌≡◌, length, take, ap, sym, ◌∙◌}
 use Rattle.std.specs.Prelude.{◌/◌}
 use Rattle.tiff_base.specs.Types.{type_size}
-use Rattle.tiff_encode.specs.Value.{filled_field}
+use Rattle.tiff_value.specs.Fields.{filled_field}
 use Rattle.tiff_encode.proofs.Tagging.{filled_back}
 use Rattle.tiff_encode.proofs.encoder.directory.tags.TagValue.of.Goals as goal
 

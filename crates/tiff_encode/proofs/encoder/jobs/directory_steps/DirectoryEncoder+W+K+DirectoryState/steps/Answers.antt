@@ -25,8 +25,8 @@ loop-step-init g c =
           (λ s. subst (λ rs. P rs s s) (sym c.requires.none) (all_none DirectoryStepped s d));
     }
 
-pub put-requires : goal.put-requires
-put-requires g c =
+pub push_reserved-requires : goal.push_reserved-requires
+push_reserved-requires g c =
     let i = c.loop-step.invariant in
     omega (arith, i.count, i.room, c.requires.room, c.loop-step-test.true)
 
@@ -48,11 +48,11 @@ loop-step-preserved g c =
     λ rs s t. AllStepped DirectoryStepped s d (take (n + 1) steps) rs t next in
     record {
       same = c.step-reply.ensures.same_reference ∙ i.same;
-      count = omega (arith, i.count, c.put.ensures.len);
-      room = omega (arith, i.room, c.put.ensures.capacity);
+      count = omega (arith, i.count, c.push_reserved.ensures.len);
+      room = omega (arith, i.room, c.push_reserved.ensures.capacity);
       moves =
-          moves_joined P Q (R c.put.new.items.items) c.args.self.now.encoder.now c.loop-step.self.encoder.now c.step-reply.new.self.encoder.now
-          (λ s m t p q. subst (λ rs. R rs s t) (sym c.put.ensures.items)
+          moves_joined P Q (R c.push_reserved.new.self.items) c.args.self.now.encoder.now c.loop-step.self.encoder.now c.step-reply.new.self.encoder.now
+          (λ s m t p q. subst (λ rs. R rs s t) (sym c.push_reserved.ensures.items)
           (all_next DirectoryStepped s m t d now next steps step n rs r c.loop-step-test.true c.step-item.is p q)) i.moves c.step-reply.ensures.moves;
     }
 

@@ -23,8 +23,8 @@ loop-step-init g c =
           (none_drawn i file);
     }
 
-pub put-requires : goal.put-requires
-put-requires g c =
+pub push_reserved-requires : goal.push_reserved-requires
+push_reserved-requires g c =
     let i = c.loop-step.invariant in
     omega (arith, i.count, i.room, c.requires.room, c.loop-step-test.true)
 
@@ -41,11 +41,11 @@ loop-step-preserved g c =
     record {
       same = c.image_step-reply.ensures.same_reference ∙ i.same;
       kind = c.fact_kind-in-loop-step.ensures ∙ sym c.fact_kind.ensures;
-      count = omega (arith, i.count, c.put.ensures.len);
-      room = omega (arith, i.room, c.put.ensures.capacity);
+      count = omega (arith, i.count, c.push_reserved.ensures.len);
+      room = omega (arith, i.room, c.push_reserved.ensures.capacity);
       draws =
           subst (λ rs. StepsDraw first.state (take (n
-          + 1) steps) rs first.encoder.now next.encoder.now next.state) (sym c.put.ensures.items)
+          + 1) steps) rs first.encoder.now next.encoder.now next.state) (sym c.push_reserved.ensures.items)
           (next_drawn first.state now.state next.state first.encoder.now now.encoder.now next.encoder.now steps c.step-item.result n rs r i.kind
           c.loop-step-test.true c.step-item.is i.draws c.image_step-reply.ensures.draws);
     }

@@ -5,9 +5,9 @@ use Rattle.tiff_base.specs.declared.tags.FileKind.{FileKind}
 use Rattle.tiff_base.specs.declared.tags.ByteOrder.TheVariants.{LittleEndian}
 use Rattle.tiff_base.specs.Field.{DirectoryRecord}
 use Rattle.tiff_base.specs.Directory.{link, directory_at}
-use Rattle.tiff_encode.specs.Model.{In, FinishedDirectory, Model, header_link, own_link, FileContains}
-use Rattle.tiff_encode.specs.Laws.{ModelsAgree}
-use Rattle.tiff_encode.specs.lemmas.Slices.{ok_inj}
+use Rattle.tiff_value.specs.Model.{In, FinishedDirectory, Model, header_link, own_link, FileContains}
+use Rattle.tiff_value.specs.FileLaws.{ModelsAgree}
+use Rattle.tiff_base.specs.lemmas.Slices.{ok_inj}
 
 -- the target of the link to the next directory, or 0 if there is no next one
 abbrev target : Option ℕ → ℕ

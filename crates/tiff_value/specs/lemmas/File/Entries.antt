@@ -20,9 +20,9 @@ use Rattle.tiff_base.specs.Field.{Field}
 use Rattle.tiff_base.specs.SourceAndSink.{bytes_at}
 use Rattle.tiff_base.specs.Number.{number, le}
 use Rattle.tiff_base.specs.Directory.{offset_width, entry_len, value_of, field_of, entry_of, entries_from, last_of_each}
-use Rattle.tiff_encode.specs.FileBytes.{offset_len, entry_bytes}
-use Rattle.tiff_encode.specs.Model.{In}
-use Rattle.tiff_encode.specs.lemmas.Slices.{exact_mid, is_exact, length-le, number-le, is_offset_width}
+use Rattle.tiff_value.specs.FileBytes.{offset_len, entry_bytes}
+use Rattle.tiff_value.specs.Model.{In}
+use Rattle.tiff_base.specs.lemmas.Slices.{exact_mid, is_exact, length-le, number-le, is_offset_width}
 
 -- ---- the map of a sorted list
 

@@ -14,15 +14,15 @@ use Rattle.tiff_base.specs.FieldBytes.{field_len, field_offset, field_bytes}
 use Rattle.tiff_base.specs.SourceAndSink.{exactly_at}
 use Rattle.tiff_base.specs.Number.{number_at, le}
 use Rattle.tiff_base.specs.Directory.{count_width, offset_width, entry_len, entries_from, last_of_each, link, first_entry, directory_at}
-use Rattle.tiff_encode.specs.FileBytes.{offset_len, count_len, entry_bytes, directory_bytes}
-use Rattle.tiff_encode.specs.Model.{BytesAreApart, In, FinishedDirectory, SuppliedField, ByteRegion, Model, header_link, own_link, IsLink, IsClear, body_len, whole_len, IsApart, FileContains, with_directory, with_supplied}
-use Rattle.tiff_encode.specs.Laws.{GrownByRegion, GrownByInline, GrownByPlaced, GrownByListing, FinishStep}
-use Rattle.tiff_encode.specs.WriteOps.{standing_fields}
-use Rattle.tiff_encode.specs.lemmas.Slices.{is_exact, exact_end, length-le, number_mid, is_offset_width, is_count_width}
-use Rattle.tiff_encode.specs.lemmas.Kept.{directory_from, directory_within, kept_by_appending, kept_by_patching}
-use Rattle.tiff_encode.specs.lemmas.Header.{zero_fits}
-use Rattle.tiff_encode.proofs.Entries.{AllWritable, length-entries, entries_read, last_of_entries}
-use Rattle.tiff_encode.proofs.FileAndModel.{len_standing, bytes_standing, standing_writable}
+use Rattle.tiff_value.specs.FileBytes.{offset_len, count_len, entry_bytes, directory_bytes}
+use Rattle.tiff_value.specs.Model.{BytesAreApart, In, FinishedDirectory, SuppliedField, ByteRegion, Model, header_link, own_link, IsLink, IsClear, body_len, whole_len, IsApart, FileContains, with_directory, with_supplied}
+use Rattle.tiff_value.specs.FileLaws.{GrownByRegion, GrownByInline, GrownByPlaced, GrownByListing, FinishStep}
+use Rattle.tiff_value.specs.WriteOps.{standing_fields}
+use Rattle.tiff_base.specs.lemmas.Slices.{is_exact, exact_end, length-le, number_mid, is_offset_width, is_count_width}
+use Rattle.tiff_value.specs.lemmas.File.Kept.{directory_from, directory_within, kept_by_appending, kept_by_patching}
+use Rattle.tiff_value.specs.lemmas.File.Header.{zero_fits}
+use Rattle.tiff_value.specs.lemmas.File.Entries.{AllWritable, length-entries, entries_read, last_of_entries}
+use Rattle.tiff_value.specs.lemmas.File.FileAndModel.{len_standing, bytes_standing, standing_writable}
 
 -- ---- bytes
 

@@ -5,8 +5,8 @@ use Rattle.std.specs.Prelude.{replicate}
 use Rattle.tiff_base.specs.declared.tags.FileKind.{FileKind}
 use Rattle.tiff_base.specs.declared.tags.FileKind.TheVariants.{Classic, Big}
 use Rattle.tiff_base.specs.Number.{le}
-use Rattle.tiff_encode.specs.FileBytes.{offset_len, count_len}
-use Rattle.tiff_encode.specs.Value.{filled_field}
+use Rattle.tiff_value.specs.FileBytes.{offset_len, count_len}
+use Rattle.tiff_value.specs.Fields.{filled_field}
 
 pub le_offset : (kind : FileKind) (n : ℕ) → take (offset_len kind) (le 8 n) ≡ le (offset_len kind) n
 le_offset Classic n = refl

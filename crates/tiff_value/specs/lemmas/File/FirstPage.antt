@@ -12,9 +12,9 @@ use Rattle.tiff_base.specs.declared.tags.FileKind.TheVariants.{Classic, Big}
 use Rattle.tiff_base.specs.Header.{order_at, header_of, header_at}
 use Rattle.tiff_base.specs.Number.{number, number_at}
 use Rattle.tiff_base.specs.SourceAndSink.{exactly_at, bytes_at}
-use Rattle.tiff_encode.specs.FileBytes.{header_mark}
-use Rattle.tiff_encode.specs.Laws.{FirstTold}
-use Rattle.tiff_encode.specs.lemmas.Slices.{ok_bind}
+use Rattle.tiff_value.specs.FileBytes.{header_mark}
+use Rattle.tiff_value.specs.FileLaws.{FirstTold}
+use Rattle.tiff_base.specs.lemmas.Slices.{ok_bind}
 
 -- if a choice between a value and an error succeeds, it returns the value
 if_ok : {A : Type 0} (b : Bool) (x y : A) (e : TiffError)

@@ -10,9 +10,9 @@ use Rattle.tiff_base.specs.Header.{header_at}
 use Rattle.tiff_base.specs.SourceAndSink.{put}
 use Rattle.tiff_base.specs.Number.{le}
 use Rattle.tiff_base.specs.FieldBytes.{field_len, field_offset}
-use Rattle.tiff_encode.specs.FileBytes.{offset_len, count_len, header_bytes, directory_bytes}
-use Rattle.tiff_encode.specs.WriteOps.{WriteOp, Appended, Supplied, Listed, Linked, after_op, bytes_after, all_appended, standing_fields, model_after_op, model_after}
-use Rattle.tiff_encode.specs.Model.{In, FinishedDirectory, SuppliedField, ByteRegion, Model, header_link, own_link, IsLink, FileContains, header_model, with_link, with_directory, with_region, with_supplied, Grows}
+use Rattle.tiff_value.specs.FileBytes.{offset_len, count_len, header_bytes, directory_bytes}
+use Rattle.tiff_value.specs.WriteOps.{WriteOp, Appended, Supplied, Listed, Linked, after_op, bytes_after, all_appended, standing_fields, model_after_op, model_after}
+use Rattle.tiff_value.specs.Model.{In, FinishedDirectory, SuppliedField, ByteRegion, Model, header_link, own_link, IsLink, FileContains, header_model, with_link, with_directory, with_region, with_supplied, Grows}
 
 -- a field that can be written as an entry
 pub record IsListable (kind : FileKind) (tag : ℕ) (f : Field) : Type 0 where

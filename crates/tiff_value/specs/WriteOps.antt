@@ -8,8 +8,8 @@ use Rattle.tiff_base.specs.declared.tags.FileKind.TheVariants.{Classic, Big}
 use Rattle.tiff_base.specs.Field.{Field}
 use Rattle.tiff_base.specs.Number.{le}
 use Rattle.tiff_base.specs.SourceAndSink.{put}
-use Rattle.tiff_encode.specs.FileBytes.{offset_len, directory_bytes}
-use Rattle.tiff_encode.specs.Model.{SuppliedField, Model, with_region, with_supplied, with_directory, with_link}
+use Rattle.tiff_value.specs.FileBytes.{offset_len, directory_bytes}
+use Rattle.tiff_value.specs.Model.{SuppliedField, Model, with_region, with_supplied, with_directory, with_link}
 
 -- a write to a file: appends bytes; records the bytes of a field, which are in its entry or were
 -- appended before; appends a directory, with link 0; writes an offset into the link at an offset

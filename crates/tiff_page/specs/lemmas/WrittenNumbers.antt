@@ -9,7 +9,7 @@ use Rattle.tiff_base.specs.declared.tags.ByteOrder.TheVariants.{LittleEndian}
 use Rattle.tiff_base.specs.Number.{number, le}
 use Rattle.tiff_page.specs.Pixels.{tabulate, width_of}
 use Rattle.tiff_page.specs.Row.{IsSize}
-use Rattle.tiff_encode.specs.lemmas.Slices.{number-le, length-le}
+use Rattle.tiff_base.specs.lemmas.Slices.{number-le, length-le}
 
 -- one byte is read as its number
 byte_back : (x : ℕ) → x < 256 → number LittleEndian w8 (le 1 x) ≡ x

@@ -19,8 +19,8 @@ use Rattle.tiff_base.specs.Types.{type_size}
 use Rattle.tiff_base.specs.lemmas.Maps.{entries_of_empty}
 use Rattle.tiff_base.specs.lemmas.Fits.{Fit, none_fits, tree_fits}
 use Rattle.tiff_value.specs.Data.{FieldData, Scalars, u8s, i8s, u16s, i16s, u32s, i32s, u64s, i64s, bits32s, bits64s, methods, interpretations, planars, predictors, units, formats, extras, ifds, ifd8s, rationals, srationals, signed_le, data_of, IsWhole}
-use Rattle.tiff_encode.specs.Value.{filled_field, field_at, is_long}
-use Rattle.tiff_encode.proofs.Entries.{entries_of}
+use Rattle.tiff_value.specs.Fields.{filled_field, field_at, is_long}
+use Rattle.tiff_value.specs.lemmas.File.Entries.{entries_of}
 
 -- ---- the entries of a map
 

@@ -16,10 +16,10 @@ use Rattle.tiff_base.specs.FieldBytes.{field_len, field_offset, field_bytes}
 use Rattle.tiff_base.specs.SourceAndSink.{bytes_at, exactly_at, put}
 use Rattle.tiff_base.specs.Number.{number, number_at, le}
 use Rattle.tiff_base.specs.Directory.{count_width, offset_width, entry_len, entry_of, entries_from, last_of_each, link, first_entry, link_offset, directory_at}
-use Rattle.tiff_encode.specs.FileBytes.{offset_len, count_len, header_mark}
-use Rattle.tiff_encode.specs.Model.{In, FinishedDirectory, Model, header_link, own_link, IsClear, body_len, IsApart, FileContains, with_link}
-use Rattle.tiff_encode.specs.Laws.{KeptByAppending, KeptByPatching, KeptByTearing}
-use Rattle.tiff_encode.specs.lemmas.Slices.{ok_bind, ok_inj, exact, is_exact, exact_append, length_put, exact_put_before, exact_put_behind, exact_put_here, length-le, number-le, is_offset_width, number_kept}
+use Rattle.tiff_value.specs.FileBytes.{offset_len, count_len, header_mark}
+use Rattle.tiff_value.specs.Model.{In, FinishedDirectory, Model, header_link, own_link, IsClear, body_len, IsApart, FileContains, with_link}
+use Rattle.tiff_value.specs.FileLaws.{KeptByAppending, KeptByPatching, KeptByTearing}
+use Rattle.tiff_base.specs.lemmas.Slices.{ok_bind, ok_inj, exact, is_exact, exact_append, length_put, exact_put_before, exact_put_behind, exact_put_here, length-le, number-le, is_offset_width, number_kept}
 
 -- another file contains the same bytes between two offsets
 pub Keeps : List ℕ → List ℕ → ℕ → ℕ → Type 0

@@ -9,8 +9,8 @@ use Rattle.tiff_base.specs.Number.{le}
 use Rattle.tiff_base.specs.SourceAndSink.{put}
 use Rattle.tiff_value.specs.lemmas.Put.{put-put, put_end}
 use Rattle.tiff_value.specs.Written.{Written, writer_after, writer_after_counted, IsStopped, IsCut}
-use Rattle.tiff_encode.specs.FileBytes.{offset_len, header_mark, header_bytes}
-use Rattle.tiff_encode.specs.lemmas.Slices.{length-le}
+use Rattle.tiff_value.specs.FileBytes.{offset_len, header_mark, header_bytes}
+use Rattle.tiff_base.specs.lemmas.Slices.{length-le}
 
 put_behind : (file : List ℕ) (at : ℕ) (xs ys : List ℕ) → length file < at
     → put (put file at xs) (at + length xs) ys ≡ put file at (xs ++ ys)

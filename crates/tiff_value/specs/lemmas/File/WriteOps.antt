@@ -4,13 +4,13 @@ use Rattle.std.proofs.lemmas.List.{length-take}
 use Rattle.tiff_base.specs.declared.tags.FileKind.{FileKind}
 use Rattle.tiff_base.specs.SourceAndSink.{put}
 use Rattle.tiff_base.specs.Number.{le}
-use Rattle.tiff_encode.specs.FileBytes.{offset_len, directory_bytes}
-use Rattle.tiff_encode.specs.Model.{ByteRegion, Model, FileContains, with_link, with_supplied, IsLink, Grows}
-use Rattle.tiff_encode.specs.WriteOps.{WriteOp, Appended, Supplied, Listed, Linked, after_op, bytes_after, all_appended, model_after_op, model_after}
-use Rattle.tiff_encode.specs.Laws.{OpFits, OpsFit, OpsStand, OpsGrow, OpsBegun, OpsTorn, OpsJoin, OpsAppend}
-use Rattle.tiff_encode.specs.lemmas.Slices.{length-le}
-use Rattle.tiff_encode.specs.lemmas.Kept.{kept_by_appending, kept_by_patching, kept_by_tearing}
-use Rattle.tiff_encode.proofs.Grown.{grown_by_region, grown_by_inline, grown_by_placed, grown_by_listing}
+use Rattle.tiff_value.specs.FileBytes.{offset_len, directory_bytes}
+use Rattle.tiff_value.specs.Model.{ByteRegion, Model, FileContains, with_link, with_supplied, IsLink, Grows}
+use Rattle.tiff_value.specs.WriteOps.{WriteOp, Appended, Supplied, Listed, Linked, after_op, bytes_after, all_appended, model_after_op, model_after}
+use Rattle.tiff_value.specs.FileLaws.{OpFits, OpsFit, OpsStand, OpsGrow, OpsBegun, OpsTorn, OpsJoin, OpsAppend}
+use Rattle.tiff_base.specs.lemmas.Slices.{length-le}
+use Rattle.tiff_value.specs.lemmas.File.Kept.{kept_by_appending, kept_by_patching, kept_by_tearing}
+use Rattle.tiff_value.specs.lemmas.File.Grown.{grown_by_region, grown_by_inline, grown_by_placed, grown_by_listing}
 
 -- ---- one after another
 

@@ -8,7 +8,7 @@ use Rattle.tiff_base.specs.Number.{le}
 use Rattle.tiff_base.specs.Types.{type_size}
 use Rattle.tiff_value.specs.Buffer.{BufferRecord}
 use Rattle.tiff_value.specs.Data.{FieldData, Scalars, u32s, u64s}
-use Rattle.tiff_encode.specs.FileBytes.{offset_len}
+use Rattle.tiff_value.specs.FileBytes.{offset_len}
 
 -- offsets as values, in a file of a kind: `LONG`, or `LONG8` in BigTIFF
 abbrev pub offset_values : FileKind → List ℕ → Scalars

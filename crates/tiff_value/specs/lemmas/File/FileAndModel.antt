@@ -11,11 +11,11 @@ use Rattle.tiff_base.specs.declared.tags.FileKind.TheVariants.{Classic, Big}
 use Rattle.tiff_base.specs.Tags.{type_number}
 use Rattle.tiff_base.specs.Field.{Field}
 use Rattle.tiff_base.specs.Number.{le}
-use Rattle.tiff_encode.specs.FileBytes.{offset_len, count_len, entry_bytes, directory_bytes}
-use Rattle.tiff_encode.specs.Model.{In}
-use Rattle.tiff_encode.specs.WriteOps.{standing_field, standing_fields}
-use Rattle.tiff_encode.specs.Laws.{IsListable}
-use Rattle.tiff_encode.proofs.Entries.{IsWritable, AllWritable, entries_of}
+use Rattle.tiff_value.specs.FileBytes.{offset_len, count_len, entry_bytes, directory_bytes}
+use Rattle.tiff_value.specs.Model.{In}
+use Rattle.tiff_value.specs.WriteOps.{standing_field, standing_fields}
+use Rattle.tiff_value.specs.FileLaws.{IsListable}
+use Rattle.tiff_value.specs.lemmas.File.Entries.{IsWritable, AllWritable, entries_of}
 
 -- an entry as the file contains it
 abbrev pub standing_entry : FileKind → ℕ × Field → ℕ × Field

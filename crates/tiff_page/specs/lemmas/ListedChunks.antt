@@ -16,7 +16,7 @@ use Rattle.tiff_page.specs.Counts.{chunk_count, planes_of, all_chunks}
 use Rattle.tiff_page.specs.Checks.{some_samples, samples_in, some_rows, some_side, inconsistent, chunks_counted, strips_in, tiles_in, chunks_in, page_of}
 use Rattle.tiff_page.specs.lemmas.PassedChecks.{passed_checks}
 use Rattle.tiff_page.specs.lemmas.Planes.{cases_of, given_bind}
-use Rattle.tiff_encode.specs.lemmas.Slices.{ok_inj}
+use Rattle.tiff_base.specs.lemmas.Slices.{ok_inj}
 
 -- if a choice between a value and an error succeeds, it returns the value
 chosen : {A : Type 0} (b : Bool) (x y : A) (e : TiffError) → cond b (Ok x) (Err e) ≡ Ok y

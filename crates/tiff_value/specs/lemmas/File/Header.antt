@@ -5,10 +5,10 @@ use Rattle.tiff_base.specs.declared.tags.FileKind.TheVariants.{Classic, Big}
 use Rattle.tiff_base.specs.declared.tags.ByteOrder.TheVariants.{LittleEndian}
 use Rattle.tiff_base.specs.Number.{number_at, le}
 use Rattle.tiff_base.specs.Directory.{offset_width}
-use Rattle.tiff_encode.specs.FileBytes.{offset_len, header_mark, header_bytes}
-use Rattle.tiff_encode.specs.Model.{IsLink, header_link, header_model}
-use Rattle.tiff_encode.specs.Laws.{HeaderStands}
-use Rattle.tiff_encode.specs.lemmas.Slices.{exact_mid, number_mid, is_offset_width, length-le}
+use Rattle.tiff_value.specs.FileBytes.{offset_len, header_mark, header_bytes}
+use Rattle.tiff_value.specs.Model.{IsLink, header_link, header_model}
+use Rattle.tiff_value.specs.FileLaws.{HeaderStands}
+use Rattle.tiff_base.specs.lemmas.Slices.{exact_mid, number_mid, is_offset_width, length-le}
 
 -- 0 fits a link
 pub zero_fits : (kind : FileKind) → 0 < 256 ^ offset_len kind

@@ -10,7 +10,7 @@ use Rattle.tiff_base.specs.SourceAndSink.{exactly_at}
 use Rattle.tiff_base.specs.Number.{number_at}
 use Rattle.tiff_base.specs.Directory.{count_width, offset_width, entry_len, link, link_offset, directory_at}
 use Rattle.tiff_base.specs.FieldBytes.{field_len, field_offset, field_bytes}
-use Rattle.tiff_encode.specs.FileBytes.{offset_len, count_len, header_mark}
+use Rattle.tiff_value.specs.FileBytes.{offset_len, count_len, header_mark}
 
 -- the n bytes at p and the l bytes at q don't overlap
 abbrev pub BytesAreApart : ℕ → ℕ → ℕ → ℕ → Type 0
