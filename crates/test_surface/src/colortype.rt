@@ -37,57 +37,37 @@ where
     Ok(out)
 }
 
+// Adds the line of the differences of a row.
+fn add<C: ColorType>(report: &mut Report, name: &str, row: &[C::Inner])
+where
+    C::Inner: Debug + Drop,
+{
+    let told = differences::<C>(report.alloc(), row);
+    report.line(name, told);
+}
+
 // The differences of the same numbers, by one to four samples.
 fn add_differences(report: &mut Report) {
-    let alloc = report.alloc();
-    let row = [1u8, 2, 3, 50, 100, 7, 8, 9, 10, 120, 11, 12];
-    report.line(
-        "Gray8::horizontal_predict",
-        differences::<Gray8>(alloc, &row),
-    );
-    report.line("RGB8::horizontal_predict", differences::<RGB8>(alloc, &row));
-    report.line(
-        "CMYK8::horizontal_predict",
-        differences::<CMYK8>(alloc, &row),
-    );
-    report.line(
-        "YCbCr8::horizontal_predict",
-        differences::<YCbCr8>(alloc, &row),
-    );
-    let row = [1i8, 2, 3, 50, 100, 7, 8, 9, 10, 120, 11, 12];
-    report.line(
-        "GrayI8::horizontal_predict",
-        differences::<GrayI8>(alloc, &row),
-    );
+    let row = [1, 2, 3, 50, 100, 7, 8, 9, 10, 120, 11, 12];
+    add::<Gray8>(report, "Gray8::horizontal_predict", &row);
+    add::<RGB8>(report, "RGB8::horizontal_predict", &row);
+    add::<CMYK8>(report, "CMYK8::horizontal_predict", &row);
+    add::<YCbCr8>(report, "YCbCr8::horizontal_predict", &row);
+    let row = [1, 2, 3, 50, 100, 7, 8, 9, 10, 120, 11, 12];
+    add::<GrayI8>(report, "GrayI8::horizontal_predict", &row);
 }
 
 // The same of larger samples.
 fn add_large_differences(report: &mut Report) {
-    let alloc = report.alloc();
-    let row = [1u16, 2, 3, 50, 100, 7, 8, 9, 10, 120, 11, 12];
-    report.line(
-        "Gray16::horizontal_predict",
-        differences::<Gray16>(alloc, &row),
-    );
-    report.line(
-        "RGB16::horizontal_predict",
-        differences::<RGB16>(alloc, &row),
-    );
-    let row = [1i16, 2, 3, 50, 100, 7, 8, 9, 10, 120, 11, 12];
-    report.line(
-        "GrayI16::horizontal_predict",
-        differences::<GrayI16>(alloc, &row),
-    );
-    let row = [1u32, 2, 3, 50, 100, 7, 8, 9, 10, 120, 11, 12];
-    report.line(
-        "Gray32::horizontal_predict",
-        differences::<Gray32>(alloc, &row),
-    );
-    let row = [1u64, 2, 3, 50, 100, 7, 8, 9, 10, 120, 11, 12];
-    report.line(
-        "RGB64::horizontal_predict",
-        differences::<RGB64>(alloc, &row),
-    );
+    let row = [1, 2, 3, 50, 100, 7, 8, 9, 10, 120, 11, 12];
+    add::<Gray16>(report, "Gray16::horizontal_predict", &row);
+    add::<RGB16>(report, "RGB16::horizontal_predict", &row);
+    let row = [1, 2, 3, 50, 100, 7, 8, 9, 10, 120, 11, 12];
+    add::<GrayI16>(report, "GrayI16::horizontal_predict", &row);
+    let row = [1, 2, 3, 50, 100, 7, 8, 9, 10, 120, 11, 12];
+    add::<Gray32>(report, "Gray32::horizontal_predict", &row);
+    let row = [1, 2, 3, 50, 100, 7, 8, 9, 10, 120, 11, 12];
+    add::<RGB64>(report, "RGB64::horizontal_predict", &row);
 }
 
 // The sample of the lowest bits of a number.

@@ -22,8 +22,8 @@ abbrev pub bytes_wanted : ℕ
 bytes_wanted = 5
 
 -- What a call on windows returns and leaves: windows in disorder are refused, and the call leaves
--- what it leaves if it is refused; else it wants bytes that no window has, and leaves the same; or it
--- tells what the call on the whole file tells.
+-- what it leaves if it is refused; else it wants bytes that no window has, and leaves the same; or
+-- it tells what the call on the whole file tells.
 abbrev pub TellsBy : Option ℕ → Windows → ℕ → Stretch → Type 0 → Type 0 → Type 0
 TellsBy None seen status wanted stays told =
     (status ≡ fault_number (IoError InvalidInput)) × stays

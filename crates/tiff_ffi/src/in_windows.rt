@@ -52,8 +52,8 @@ fn directory_seen<F: SeenFile>(
     unless_wanted(read, source.wanted())
 }
 
-// Puts the entries of the directory of a page into a slice, as many as fit, and returns how many there
-// are, or the bytes that are wanted for them.
+// Puts the entries of the directory of a page into a slice, as many as fit, and returns how many
+// there are, or the bytes that are wanted for them.
 #[tactic(auto, unfolding(crate::specs::InWindows::list_tags))]
 fn entries_seen<F: SeenFile>(
     alloc: Global,
@@ -127,8 +127,8 @@ fn part_seen<F: SeenFile>(
     unless_wanted(read, source.wanted())
 }
 
-// Copies bytes of the values of a tag of a page's directory, or returns the bytes that are wanted for
-// them.
+// Copies bytes of the values of a tag of a page's directory, or returns the bytes that are wanted
+// for them.
 #[tactic(auto, unfolding(crate::specs::InWindows::tag_bytes))]
 fn bytes_seen<F: SeenFile>(
     alloc: Global,
@@ -160,10 +160,20 @@ fn bytes_seen<F: SeenFile>(
     part_seen::<F>(&fields, seen, &entry, at, buffer)
 }
 
-/// Puts the pages of a file of which the caller has windows into `out`, as many as fit, and how many
-/// there are into `count`, as `list_into` does of the whole file. If it wants bytes that no window
-/// has, it returns `BytesWanted` and puts their stretch into `wanted`. For windows in disorder it
-/// returns the number of `IoError(InvalidInput)`. `count` is then 0, and `out` is as it was.
+// Puts the stretch of a file that a call wants into `wanted`, and returns the call's status.
+fn bytes_wanted(stretch: Stretch, wanted: &mut Stretch) -> u32
+    ensures status { result ≡ spec.bytes_wanted }
+    ensures put { wanted.new ≡ stretch }
+{
+    *wanted = stretch;
+    Status::BytesWanted as u32
+}
+
+/// Puts the pages of a file of which the caller has windows into `out`, as many as fit, and how
+/// many there are into `count`, as `list_into` does of the whole file. If it wants bytes that no
+/// window has, it returns `BytesWanted` and puts their stretch into `wanted`. For windows in
+/// disorder it returns the number of `IoError(InvalidInput)`. `count` is then 0, and `out` is as it
+/// was.
 pub fn list_pages_in(
     alloc: Global,
     seen: &Windows<'_>,
@@ -182,17 +192,15 @@ pub fn list_pages_in(
     };
     match pages_seen::<Brand>(alloc, &windows) {
         Ok(listed) => tell_pages(listed, out, count),
-        Err(stretch) => {
-            *wanted = stretch;
-            Status::BytesWanted as u32
-        }
+        Err(stretch) => bytes_wanted(stretch, wanted),
     }
 }
 
-/// Puts the directories of a file of which the caller has windows into `out`, as many as fit, and how many
-/// there are into `count`, as `list_tree` does of the whole file. If it wants bytes that no window
-/// has, it returns `BytesWanted` and puts their stretch into `wanted`. For windows in disorder it
-/// returns the number of `IoError(InvalidInput)`. `count` is then 0, and `out` is as it was.
+/// Puts the directories of a file of which the caller has windows into `out`, as many as fit, and
+/// how many there are into `count`, as `list_tree` does of the whole file. If it wants bytes that
+/// no window has, it returns `BytesWanted` and puts their stretch into `wanted`. For windows in
+/// disorder it returns the number of `IoError(InvalidInput)`. `count` is then 0, and `out` is as it
+/// was.
 pub fn list_directories_in(
     alloc: Global,
     seen: &Windows<'_>,
@@ -211,10 +219,7 @@ pub fn list_directories_in(
     };
     match directories_seen::<Brand>(alloc, &windows) {
         Ok(listed) => tell_directories(listed, out, count),
-        Err(stretch) => {
-            *wanted = stretch;
-            Status::BytesWanted as u32
-        }
+        Err(stretch) => bytes_wanted(stretch, wanted),
     }
 }
 
@@ -255,8 +260,8 @@ fn planned_seen<F: SeenFile>(
     unless_wanted(read, chunks.source.wanted())
 }
 
-// Reads several chunks into a slice by the numbers of a plan, or returns the bytes that are wanted for
-// them.
+// Reads several chunks into a slice by the numbers of a plan, or returns the bytes that are wanted
+// for them.
 #[tactic(auto, unfolding(crate::specs::Plan::read_planned_chunks))]
 fn range_seen<F: SeenFile>(
     alloc: Global,
@@ -280,8 +285,8 @@ fn range_seen<F: SeenFile>(
 
 /// Puts the numbers of the plan of a page of a file of which the caller has windows into `plan`, as
 /// `page_plan` does of the whole file. If it wants bytes that no window has, it returns
-/// `BytesWanted` and puts their stretch into `wanted`. For windows in disorder it returns the number
-/// of `IoError(InvalidInput)`. `plan` is then as it was.
+/// `BytesWanted` and puts their stretch into `wanted`. For windows in disorder it returns the
+/// number of `IoError(InvalidInput)`. `plan` is then as it was.
 pub fn page_plan_in(
     alloc: Global,
     seen: &Windows<'_>,
@@ -299,17 +304,14 @@ pub fn page_plan_in(
     };
     match plan_seen::<Brand>(alloc, &windows, page) {
         Ok(found) => put_value(found_numbers(found), plan),
-        Err(stretch) => {
-            *wanted = stretch;
-            Status::BytesWanted as u32
-        }
+        Err(stretch) => bytes_wanted(stretch, wanted),
     }
 }
 
-/// Reads a chunk by a plan, as `read_planned_chunk` does, of a file of which the caller has windows.
-/// If it wants bytes that no window has, it returns `BytesWanted` and puts their stretch into
-/// `wanted`. For windows in disorder it returns the number of `IoError(InvalidInput)`. What these
-/// leave in `buffer` is not specified.
+/// Reads a chunk by a plan, as `read_planned_chunk` does, of a file of which the caller has
+/// windows. If it wants bytes that no window has, it returns `BytesWanted` and puts their stretch
+/// into `wanted`. For windows in disorder it returns the number of `IoError(InvalidInput)`. What
+/// these leave in `buffer` is not specified.
 pub fn read_planned_chunk_in(
     alloc: Global,
     seen: &Windows<'_>,
@@ -327,16 +329,13 @@ pub fn read_planned_chunk_in(
     };
     match planned_seen::<Brand>(alloc, &windows, plan, chunk, buffer) {
         Ok(read) => unit_status(read),
-        Err(stretch) => {
-            *wanted = stretch;
-            Status::BytesWanted as u32
-        }
+        Err(stretch) => bytes_wanted(stretch, wanted),
     }
 }
 
-/// Reads several chunks by a plan, one behind the other, as `read_planned_chunks` does, of a file of
-/// which the caller has windows. If it wants bytes that no window has, it returns `BytesWanted` and
-/// puts their stretch into `wanted`. For windows in disorder it returns the number of
+/// Reads several chunks by a plan, one behind the other, as `read_planned_chunks` does, of a file
+/// of which the caller has windows. If it wants bytes that no window has, it returns `BytesWanted`
+/// and puts their stretch into `wanted`. For windows in disorder it returns the number of
 /// `IoError(InvalidInput)`. What these leave in `buffer` is not specified.
 pub fn read_planned_chunks_in(
     alloc: Global,
@@ -356,18 +355,16 @@ pub fn read_planned_chunks_in(
     };
     match range_seen::<Brand>(alloc, &windows, plan, first, count, buffer) {
         Ok(read) => unit_status(read),
-        Err(stretch) => {
-            *wanted = stretch;
-            Status::BytesWanted as u32
-        }
+        Err(stretch) => bytes_wanted(stretch, wanted),
     }
 }
 
 /// Puts the entries of the directory of a page of a file of which the caller has windows into
-/// `entries`, as many as fit, and how many there are into `count`. As `list_tags` does with the offset
-/// of a directory, it doesn't ask whether the directory is a page. If it wants bytes that no window
-/// has, it returns `BytesWanted` and puts their stretch into `wanted`. For windows in disorder it
-/// returns the number of `IoError(InvalidInput)`. `entries` and `count` are then as they were.
+/// `entries`, as many as fit, and how many there are into `count`. As `list_tags` does with the
+/// offset of a directory, it doesn't ask whether the directory is a page. If it wants bytes that no
+/// window has, it returns `BytesWanted` and puts their stretch into `wanted`. For windows in
+/// disorder it returns the number of `IoError(InvalidInput)`. `entries` and `count` are then as
+/// they were.
 pub fn list_tags_in(
     alloc: Global,
     seen: &Windows<'_>,
@@ -387,17 +384,14 @@ pub fn list_tags_in(
     };
     match entries_seen::<Brand>(alloc, &windows, page, entries) {
         Ok(told) => put_value(told, count),
-        Err(stretch) => {
-            *wanted = stretch;
-            Status::BytesWanted as u32
-        }
+        Err(stretch) => bytes_wanted(stretch, wanted),
     }
 }
 
 /// Copies the bytes of the values of a tag of a file of which the caller has windows into `buffer`,
-/// from byte `at` on, as many as fit, and puts how many into `written`, as `tag_bytes` does with the
-/// offset of a directory. If it wants bytes that no window has, it returns `BytesWanted` and puts
-/// their stretch into `wanted`. For windows in disorder it returns the number of
+/// from byte `at` on, as many as fit, and puts how many into `written`, as `tag_bytes` does with
+/// the offset of a directory. If it wants bytes that no window has, it returns `BytesWanted` and
+/// puts their stretch into `wanted`. For windows in disorder it returns the number of
 /// `IoError(InvalidInput)`. `written` is then as it was; what is in `buffer` is not specified.
 pub fn tag_bytes_in(
     alloc: Global,
@@ -419,9 +413,6 @@ pub fn tag_bytes_in(
     };
     match bytes_seen::<Brand>(alloc, &windows, page, number, at, buffer) {
         Ok(told) => put_value(told, written),
-        Err(stretch) => {
-            *wanted = stretch;
-            Status::BytesWanted as u32
-        }
+        Err(stretch) => bytes_wanted(stretch, wanted),
     }
 }

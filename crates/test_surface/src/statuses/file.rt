@@ -1,9 +1,8 @@
 //! The calls that read a whole file, and the texts of statuses.
 
 use std::io;
-use tiff_ffi::calls::Color;
 use tiff_ffi::directories::ListedDirectory;
-use tiff_ffi::list::ListedPage;
+use tiff_ffi::list::NO_PAGE;
 
 /// Prints the byte order of a file and the number of its pages.
 pub fn print_file(rt: &HostRuntime, file: &[u8]) -> io::Result<()> {
@@ -14,23 +13,6 @@ pub fn print_file(rt: &HostRuntime, file: &[u8]) -> io::Result<()> {
     let status = tiff_ffi::page_count(rt.alloc(), file, &mut pages);
     println!(rt; "page_count: {status}, {pages}")
 }
-
-pub const NO_PAGE: ListedPage = ListedPage {
-    offset: 0,
-    status: 0,
-    width: 0,
-    height: 0,
-    method: 0,
-    color_status: 0,
-    color: Color {
-        kind: 0,
-        bits: 0,
-        samples: 0,
-    },
-    chunk_kind: 0,
-    count_status: 0,
-    count: 0,
-};
 
 pub const NO_DIRECTORY: ListedDirectory = ListedDirectory {
     offset: 0,

@@ -1,10 +1,11 @@
 //! The calls on a file of which the caller has windows.
 
-use super::file::{NO_DIRECTORY, NO_PAGE};
+use super::file::NO_DIRECTORY;
 use super::page::{NO_PLAN, PLAN};
 use super::tags::{BITS_PER_SAMPLE, NO_ENTRY};
 use std::io;
 use tiff_base::windows::{Stretch, Window, Windows};
+use tiff_ffi::list::NO_PAGE;
 
 const NOTHING: Stretch = Stretch { offset: 0, len: 0 };
 
