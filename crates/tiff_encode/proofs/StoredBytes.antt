@@ -9,8 +9,8 @@ use Rattle.tiff_page.specs.Pixels.{numbers_in}
 use Rattle.tiff_page.specs.Row.{IsSize}
 use Rattle.tiff_page.specs.lemmas.Rows.{some_size}
 use Rattle.tiff_value.specs.ColorType.{sample_number}
-use Rattle.tiff_encode.specs.declared.encoder.image.samples.ImageSamples.{ImageSamples}
-use Rattle.tiff_encode.specs.declared.encoder.image.samples.ImageSamples.TheVariants.{Typed, Stored}
+use Rattle.tiff_encode.specs.declared.encoder.image.chunks.ImageSamples.{ImageSamples}
+use Rattle.tiff_encode.specs.declared.encoder.image.chunks.ImageSamples.TheVariants.{Typed, Stored}
 use Rattle.tiff_encode.specs.Calls.{write_chunk}
 use Rattle.tiff_encode.specs.Causes.{image_samples}
 use Rattle.tiff_encode.specs.Chunks.{image_page, row_samples, chunk_samples, is_in_order, cut_out}

@@ -3,8 +3,8 @@ use Rattle.std.specs.Prelude.{◌≡◌, ℕ, ◌%◌, true, List, length, map}
 use Rattle.tiff_base.specs.declared.tags.Predictor.TheVariants as predictor
 use Rattle.tiff_page.specs.Pixels.{numbers_in}
 use Rattle.tiff_value.specs.ColorType.{sample_number}
-use Rattle.tiff_encode.specs.declared.encoder.image.samples.ImageSamples.{ImageSamples}
-use Rattle.tiff_encode.specs.declared.encoder.image.samples.ImageSamples.TheVariants.{Typed, Stored}
+use Rattle.tiff_encode.specs.declared.encoder.image.chunks.ImageSamples.{ImageSamples}
+use Rattle.tiff_encode.specs.declared.encoder.image.chunks.ImageSamples.TheVariants.{Typed, Stored}
 use Rattle.tiff_encode.specs.declared.encoder.settings.Compression.TheVariants.{Uncompressed}
 use Rattle.tiff_encode.specs.Chunks.{is_in_order}
 use Rattle.tiff_encode.specs.Machine.{OpenImage}

@@ -7,7 +7,6 @@ mod job_samples;
 mod jobs;
 mod kind;
 pub mod laws;
-mod limits;
 pub mod script;
 mod settings;
 
@@ -28,8 +27,8 @@ pub use self::directory::encoder::DirectoryEncoder;
 pub use self::directory::state::HasDirectory;
 pub use self::image::begin::columns;
 pub use self::image::encoder::ImageEncoder;
+use self::kind::offset_size;
 pub use self::kind::{DirectoryOffset, OffsetNumber, TiffKind, TiffKindBig, TiffKindStandard};
-use self::limits::offset_size;
 pub use self::settings::Compression;
 use std::alloc::Global;
 use std::marker::{Model, PhantomData};

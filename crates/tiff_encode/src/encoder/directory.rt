@@ -2,7 +2,5 @@
 
 pub(crate) mod encoder;
 pub(crate) mod finish;
-pub(crate) mod listing;
 pub(crate) mod state;
-pub(crate) mod tags;
 pub(crate) mod values;

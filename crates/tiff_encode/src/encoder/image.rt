@@ -1,13 +1,10 @@
 //! Open images: how they begin, their state, their settings, their chunks, and their end.
 
 pub(crate) mod begin;
-pub(crate) mod chunk_scratch;
 pub(crate) mod chunks;
 pub(crate) mod color;
 pub(crate) mod data;
 pub(crate) mod encoder;
 pub(crate) mod finish;
-pub(crate) mod repeated;
-pub(crate) mod samples;
 pub(crate) mod settings;
 pub(crate) mod state;

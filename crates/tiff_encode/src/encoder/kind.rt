@@ -1,18 +1,20 @@
-//! The two kinds of TIFF file that the encoder writes, and the offsets of a directory in such a
-//! file.
+//! The two kinds of TIFF file that the encoder writes, what each can hold, and the offsets of a
+//! directory in such a file.
 
-ghost use Rattle.std.specs.Prelude.{◌≡◌, false, true, ℕ, ◌^◌, if◌then◌else◌, nat_le, None, Some, Ok, Err};
-ghost use Rattle.std.specs.FinMap as map;
+ghost use Rattle.std.specs.Prelude.{◌≡◌, false, true, ℕ, ◌^◌, if◌then◌else◌, nat_le, None, Some, Ok, Err, ◌≤◌, length};
 ghost use Rattle.tiff_base.specs.Answers.{Gives};
 ghost use Rattle.tiff_base.specs.Directory.{link_offset};
 ghost use Rattle.tiff_base.specs.Number.{le};
-ghost use Rattle.tiff_base.specs.declared.tags.FileKind as kinds;
 ghost use Rattle.tiff_base.specs.declared.error.TiffError.TheVariants.{IntSizeError};
 ghost use Rattle.tiff_encode.specs.Calls.{new_offset};
 ghost use Rattle.tiff_encode.specs.Causes.{is_past, is_past_count};
 ghost use Rattle.tiff_base.specs.Types.{type_size};
 ghost use Rattle.tiff_value.specs.FileBytes.{count_len, greatest_offset, offset_len};
 ghost use Rattle.tiff_encode.specs.Kind.{WritesHeader, WritesWithin};
+ghost use Rattle.tiff_encode.specs.Placing.{field_test, Checks};
+ghost use Rattle.tiff_value.specs.Fields.{filled_field};
+ghost use Rattle.std.specs.FinMap as map;
+ghost use Rattle.tiff_base.specs.declared.tags.FileKind as kinds;
 
 use std::alloc::AllocError;
 use std::marker::{Model, PhantomData};
@@ -316,4 +318,50 @@ impl<K: TiffKind> DirectoryOffset<K, K::OffsetType> {
         }
         Ok(DirectoryOffset::at(pointer.0, link))
     }
+}
+
+/// Returns the number of bytes of an offset and of a value field.
+pub fn offset_size(kind: FileKind) -> u64
+    ensures { result ≡ offset_len kind }
+{
+    match kind {
+        FileKind::Classic => 4,
+        FileKind::Big => 8,
+    }
+}
+
+/// Returns whether a number exceeds the offsets, the counts and the lengths of a kind of file.
+pub fn is_past_offset(kind: FileKind, n: u64) -> bool
+    ensures { result ≡ is_past kind n }
+{
+    match kind {
+        FileKind::Classic => n > u64::from(u32::MAX),
+        FileKind::Big => false,
+    }
+}
+
+/// Returns `IntSizeError` if `count` values of `len` bytes in all can't be a field at the end of a
+/// file of `end` bytes.
+#[tactic(auto, unfolding(crate::specs::Placing::field_test))]
+pub fn check_field(kind: FileKind, end: u64, count: u64, len: usize) -> TiffResult<()>
+    ensures { Checks (field_test kind end count len) result }
+{
+    if is_past_offset(kind, count) {
+        return Err(TiffError::IntSizeError);
+    }
+    if len as u64 > offset_size(kind) && is_past_offset(kind, end) {
+        return Err(TiffError::IntSizeError);
+    }
+    Ok(())
+}
+
+/// Returns the 8 bytes of a value field that contains these bytes, filled with zeros at the end.
+#[tactic(auto, using(tiff_value::specs::lemmas::File::Listing::filled_whole))]
+pub fn fill(bytes: &[u8]) -> [u8; 8]
+    requires { length bytes.now ≤ 8 }
+    ensures { result ≡ filled_field bytes.now }
+{
+    let mut wide = [0u8; 8];
+    wide[..bytes.len()].copy_from_slice(bytes);
+    wide
 }

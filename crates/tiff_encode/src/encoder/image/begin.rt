@@ -14,8 +14,8 @@ ghost use Rattle.tiff_value.specs.FileBytes.{resolutions_offset};
 
 use crate::encoder::TiffEncoder;
 use crate::encoder::directory::state::DirectoryState;
-use crate::encoder::directory::tags::TagValue;
-use crate::encoder::image::chunk_scratch::ChunkScratch;
+use crate::encoder::directory::values::TagValue;
+use crate::encoder::image::chunks::ChunkScratch;
 use crate::encoder::image::color::ImageColor;
 use crate::encoder::image::state::{ChunkLayout, ImageState};
 use crate::encoder::kind::TiffKind;

@@ -1,10 +1,9 @@
-//! Writes chunks.
+//! Writes chunks: the samples that are given for one, the buffers that compress it, and its place in
+//! the file.
 
 ghost use Rattle.std.specs.Prelude.{◌≡◌, ◌-◌, ◌*◌, ◌%◌, ◌^◌, ◌<◌, ◌≤◌, length, map, IfSome, MatchResult, None, Some};
 ghost use Rattle.tiff_base.specs.Types.{type_size};
 ghost use Rattle.tiff_value.specs.ColorType.{sample_number};
-ghost use Rattle.tiff_base.specs.declared.tags.CompressionMethod.TheVariants as method;
-ghost use Rattle.tiff_encode.specs.Calls as calls;
 ghost use Rattle.tiff_encode.specs.Causes.{end_of, write_chunk_cause, write_strip_cause};
 ghost use Rattle.tiff_page.specs.Pixels.{numbers_in, stored_samples};
 ghost use Rattle.tiff_encode.specs.Chunks.{image_page, next_chunk_sample_count, row_samples};
@@ -12,23 +11,130 @@ ghost use Rattle.tiff_encode.specs.Given.{given_count, given_numbers, IsChunkSto
 ghost use Rattle.tiff_encode.specs.Placing.{Checks};
 ghost use Rattle.tiff_encode.specs.Storing.{chunk_test, AppendsChunk, StoresChunk, WritesStoredChunk};
 ghost use Rattle.tiff_encode.specs.Machine.{compression_method};
-ghost use Rattle.tiff_encode.specs.Stored as stored;
 ghost use Rattle.tiff_encode.specs.Stored.{IsChunkStored};
+ghost use Rattle.tiff_base.specs.SourceAndSink.{AreOctets};
+ghost use Rattle.tiff_encode.specs.ImageData.{AreNumbers};
+ghost use Rattle.tiff_value.specs.Packed.{ArePackedRows, IsPacked};
+ghost use Rattle.tiff_value.specs.Predicted.{row_bytes};
+ghost use Rattle.tiff_base.specs.declared.tags.CompressionMethod.TheVariants as method;
+ghost use Rattle.tiff_encode.specs.Calls as calls;
+ghost use Rattle.tiff_encode.specs.Stored as stored;
 
 use crate::encoder::TiffEncoder;
-use crate::encoder::image::chunk_scratch::ChunkScratch;
-use crate::encoder::image::samples::ImageSamples;
 use crate::encoder::image::state::{Chunk, ImageState};
-use crate::encoder::kind::TiffKind;
-use crate::encoder::limits::is_past_offset;
+use crate::encoder::kind::{TiffKind, is_past_offset};
 use crate::encoder::settings::Compression;
+use std::alloc::Global;
 use std::mem;
 use tiff_base::color::ChunkType;
 use tiff_base::error::{TiffError, TiffResult, UsageError};
 use tiff_base::io::{IoKind, Sink};
 use tiff_base::tags::{FileKind, Predictor};
-use tiff_value::encoder::chunk::SampleRows;
+use tiff_value::encoder::chunk::{SampleRows, pack_chunk, pack_chunk_rows, push_chunk};
 use tiff_value::encoder::horizontal_predictor::Sample;
+use tiff_value::encoder::tiff_value::TiffValue;
+
+// Each byte is a number below 256.
+fn fact_octets(bytes: &[u8])
+    ensures { AreOctets bytes.now }
+{
+    let _count = bytes.len();
+}
+
+/// The samples of an image or a chunk: in the number type of its color type, or as bytes that are
+/// stored as they are.
+#[derive(Clone, Copy, Drop)]
+pub(crate) enum ImageSamples<'a, S> {
+    Typed(&'a [S]),
+    Stored(&'a [u8]),
+}
+
+impl<'a, S: Sample> ImageSamples<'a, S> {
+    /// Returns the number of samples.
+    #[tactic(auto, using(crate::specs::lemmas::NumbersIn::count_numbers))]
+    pub(crate) fn count(self) -> usize
+        ensures numbers { result ≡ length (given_numbers (type_size S.value_type) S.bits self.entry) }
+        ensures count { result ≡ given_count (type_size S.value_type) self.entry }
+    {
+        match self {
+            ImageSamples::Typed(samples) => samples.len(),
+            ImageSamples::Stored(bytes) => {
+                let (_kind, len) = S::type_and_len();
+                bytes.len().div_ceil(usize::from(len))
+            }
+        }
+    }
+
+    /// Each sample fits its number of bytes. A caller calls this where its proof needs the fact.
+    pub(crate) fn fact_numbers(self)
+        ensures { AreNumbers (type_size S.value_type)
+            (given_numbers (type_size S.value_type) S.bits self.entry) }
+    {
+        match self {
+            ImageSamples::Typed(_samples) => {}
+            ImageSamples::Stored(bytes) => fact_octets(bytes),
+        }
+    }
+}
+
+/// The bytes of a chunk, and its compressed bytes. Both lists keep their memory from one chunk to
+/// the next.
+#[derive(Drop)]
+pub struct ChunkScratch {
+    plain: Vec<u8>,
+    pub(crate) packed: Vec<u8>,
+}
+
+impl ChunkScratch {
+    /// Returns two empty lists. It allocates nothing.
+    pub(crate) fn empty(alloc: Global) -> ChunkScratch {
+        ChunkScratch {
+            plain: Vec::new(alloc),
+            packed: Vec::new(alloc),
+        }
+    }
+
+    // Replaces the bytes by those of rows of samples.
+    fn fill<T: Sample>(&mut self, rows: SampleRows<'_, T>) -> TiffResult<()>
+        requires stride { (0 < rows.stride) × (rows.stride ≤ rows.row) }
+        requires whole { length rows.samples.now % rows.row ≡ 0 }
+        ensures { MatchResult result
+            (λ _. self.new.plain.items ≡ row_bytes T.value_type T.bits rows.entry)
+            (λ e. e ≡ TiffError.OutOfMemory) }
+    {
+        self.plain.clear();
+        push_chunk(rows, &mut self.plain)
+    }
+
+    /// Compresses rows of samples. The only error is `OutOfMemory`.
+    pub(crate) fn pack<T: Sample>(&mut self, rows: SampleRows<'_, T>) -> TiffResult<()>
+        requires stride { (0 < rows.stride) × (rows.stride ≤ rows.row) }
+        requires whole { length rows.samples.now % rows.row ≡ 0 }
+        ensures { MatchResult result
+            (λ _. IsPacked (row_bytes T.value_type T.bits rows.entry) self.new.packed.items)
+            (λ e. e ≡ TiffError.OutOfMemory) }
+    {
+        self.fill(rows)?;
+        pack_chunk(&self.plain, &mut self.packed)
+    }
+
+    /// `pack` that compresses each row by itself.
+    pub(crate) fn pack_rows<T: Sample>(&mut self, rows: SampleRows<'_, T>) -> TiffResult<()>
+        requires stride { (0 < rows.stride) × (rows.stride ≤ rows.row) }
+        requires whole { length rows.samples.now % rows.row ≡ 0 }
+        requires few { rows.row < 2 ^ 48 }
+        ensures { MatchResult result
+            (λ _. ArePackedRows (rows.entry.row * type_size T.value_type)
+            (row_bytes T.value_type T.bits rows.entry)
+            self.new.packed.items)
+            (λ e. e ≡ TiffError.OutOfMemory) }
+    {
+        let (_kind, len) = T::type_and_len();
+        let row_bytes = rows.row * usize::from(len);
+        self.fill(rows)?;
+        pack_chunk_rows(&self.plain, row_bytes, &mut self.packed)
+    }
+}
 
 // Returns the number of bytes of `count` samples. The only error is `OutOfMemory`, if `count` is
 // `usize::MAX` or the number of bytes exceeds it: no memory holds so many samples.

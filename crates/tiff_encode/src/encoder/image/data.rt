@@ -14,7 +14,7 @@ ghost use Rattle.tiff_encode.specs.ImageData.{WritesChunks, WritesImage, WritesI
 ghost use Rattle.tiff_encode.specs.Parts.{next_part, next_slice, pixel_sample, rect_of, row_sample, IsPatch, WritesPart};
 
 use crate::encoder::TiffEncoder;
-use crate::encoder::image::samples::ImageSamples;
+use crate::encoder::image::chunks::ImageSamples;
 use crate::encoder::image::state::{ImageState, parts_of};
 use crate::encoder::kind::TiffKind;
 use crate::encoder::settings::Compression;

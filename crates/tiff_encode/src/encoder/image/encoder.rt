@@ -16,7 +16,7 @@ ghost use Rattle.tiff_encode.specs.Storing.{WritesStoredChunk};
 
 use crate::encoder::TiffEncoder;
 use crate::encoder::directory::encoder::DirectoryEncoder;
-use crate::encoder::image::samples::ImageSamples;
+use crate::encoder::image::chunks::ImageSamples;
 use crate::encoder::image::state::ImageState;
 use crate::encoder::kind::{TiffKind, TiffKindStandard};
 use tiff_base::error::TiffResult;

@@ -14,11 +14,10 @@ ghost use Rattle.tiff_encode.specs.Tagging.{StopsResolving, fields_of};
 
 use crate::encoder::TiffEncoder;
 use crate::encoder::directory::encoder::DirectoryEncoder;
-use crate::encoder::directory::tags::TagValue;
+use crate::encoder::directory::values::TagValue;
 use crate::encoder::image::color::ImageColor;
 use crate::encoder::image::state::{ChunkLayout, ImageState};
-use crate::encoder::kind::TiffKind;
-use crate::encoder::limits::check_field;
+use crate::encoder::kind::{TiffKind, check_field};
 use tiff_base::color::ChunkType;
 use tiff_base::error::{TiffError, TiffResult, UsageError};
 use tiff_base::io::{IoKind, Sink};

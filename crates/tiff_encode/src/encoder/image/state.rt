@@ -9,7 +9,7 @@ ghost use Rattle.tiff_encode.specs.Chunks.{all_samples, chunk_rows, chunks_left,
 ghost use Rattle.tiff_encode.specs.Given.{StoresBytes};
 
 use crate::encoder::directory::state::{DirectoryState, HasDirectory, Room};
-use crate::encoder::image::chunk_scratch::ChunkScratch;
+use crate::encoder::image::chunks::ChunkScratch;
 use crate::encoder::image::color::ImageColor;
 use crate::encoder::settings::Compression;
 use std::marker::{Model, PhantomData};

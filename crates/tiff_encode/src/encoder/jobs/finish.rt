@@ -12,7 +12,7 @@ ghost use Rattle.tiff_encode.specs.Stepping.{EndMoves, ImageHeld};
 
 use crate::encoder::directory::encoder::DirectoryEncoder;
 use crate::encoder::directory::state::DirectoryState;
-use crate::encoder::image::samples::ImageSamples;
+use crate::encoder::image::chunks::ImageSamples;
 use crate::encoder::image::state::ImageState;
 use crate::encoder::kind::TiffKind;
 use crate::encoder::script::{DirectoryEnd, EndReply, ImageEnd, JobSamples};

@@ -8,7 +8,7 @@ ghost use Rattle.tiff_encode.specs.JobValues.{cut_to};
 ghost use Rattle.tiff_encode.specs.Stepping.{KeepsImage, StepsDraw};
 
 use crate::encoder::directory::encoder::DirectoryEncoder;
-use crate::encoder::image::samples::ImageSamples;
+use crate::encoder::image::chunks::ImageSamples;
 use crate::encoder::image::state::ImageState;
 use crate::encoder::kind::TiffKind;
 use crate::encoder::script::{ImageStep, JobSamples, StepReply};

@@ -1,7 +1,7 @@
 use Rattle.std.proofs.Common.{rules, ◌≡◌, ◌≤◌, length, subst}
 use Rattle.tiff_base.specs.Types.{type_size}
 use Rattle.tiff_page.specs.Pixels.{numbers_in}
-use Rattle.tiff_encode.specs.declared.encoder.image.samples.ImageSamples.TheVariants.{Stored}
+use Rattle.tiff_encode.specs.declared.encoder.image.chunks.ImageSamples.TheVariants.{Stored}
 use Rattle.tiff_encode.specs.Causes.{image_samples}
 use Rattle.tiff_encode.specs.Given.{given_numbers, AreStorable}
 use Rattle.tiff_encode.specs.lemmas.NumbersIn.{bytes_enough}

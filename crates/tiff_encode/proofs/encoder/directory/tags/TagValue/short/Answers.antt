@@ -1,6 +1,0 @@
-use Rattle.tiff_encode.proofs.Tagging.{short_is}
-use Rattle.tiff_encode.proofs.encoder.directory.tags.TagValue.short.Goals as goal
-
-pub returns : goal.returns
-returns c =
-    short_is c.of.result c.args.tag c.to_le_bytes.result c.args.n c.of.ensures c.to_le_bytes.ensures
