@@ -154,16 +154,24 @@ fn byte_count<T: Sample>(count: usize) -> TiffResult<usize>
 }
 
 impl<T: Sample> ImageState<T> {
-    // Returns the number of samples of a row of a chunk, and the number of samples of a pixel in a
-    // chunk.
-    fn row_and_stride(&self) -> (usize, usize)
-        ensures row { result.0 ≡ row_samples (image_page self.now) }
-        ensures stride { result.1 ≡ stored_samples (image_page self.now) }
-        ensures order { (0 < result.1) × (result.1 ≤ result.0) }
-        ensures few { result.0 < 2 ^ 48 }
+    // Returns the samples of the next chunk as rows.
+    fn sample_rows<'a>(&self, samples: &'a [T]) -> SampleRows<'a, T>
+        requires next { length samples.now ≡ next_chunk_sample_count self.now }
+        requires few { length samples.now < 2 ^ 64 - 1 }
+        ensures bytes { row_bytes T.value_type T.bits result ≡ stored.unpacked_chunk self.now
+            (map (sample_number (type_size T.value_type) T.bits) samples.now) }
+        ensures whole { length result.samples.now % result.row ≡ 0 }
+        ensures row { result.row ≡ row_samples (image_page self.now) }
+        ensures short { result.row < 2 ^ 48 }
+        ensures stride { (0 < result.stride) × (result.stride ≤ result.row) }
     {
         let stride = self.stored_samples() as usize;
-        (self.form.chunk_width as usize * stride, stride)
+        SampleRows {
+            samples,
+            predictor: self.predictor,
+            row: self.form.chunk_width as usize * stride,
+            stride,
+        }
     }
 
     // Compresses the samples of the next chunk. The only error is `OutOfMemory`, also if the number
@@ -177,13 +185,7 @@ impl<T: Sample> ImageState<T> {
             (λ e. e ≡ TiffError.OutOfMemory) }
     {
         byte_count::<T>(samples.len())?;
-        let (row, stride) = self.row_and_stride();
-        let rows = SampleRows {
-            samples,
-            predictor: self.predictor,
-            row,
-            stride,
-        };
+        let rows = self.sample_rows(samples);
         match self.compression {
             Compression::PackbitsRows => scratch.pack_rows(rows),
             _ => scratch.pack(rows),
@@ -284,13 +286,7 @@ impl<W: Sink, K: TiffKind> TiffEncoder<W, K> {
             image.old result self.old self.new image.new }
     {
         let bytes = byte_count::<T>(samples.len())?;
-        let (row, stride) = image.row_and_stride();
-        let rows = SampleRows {
-            samples,
-            predictor: image.predictor,
-            row,
-            stride,
-        };
+        let rows = image.sample_rows(samples);
         let offset = self.chunk_offset(image, samples.len(), bytes)?;
         let Ok(()) = image.chunks.reserve(1) else {
             return Err(TiffError::OutOfMemory);

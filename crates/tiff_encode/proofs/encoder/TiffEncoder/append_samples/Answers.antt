@@ -6,7 +6,7 @@ use Rattle.tiff_value.specs.ColorType.{sample_number}
 use Rattle.tiff_encode.specs.Encoder.{AppendIsStopped, AppendIsCut}
 use Rattle.tiff_encode.specs.FileWrites.{file_with_bytes}
 use Rattle.tiff_encode.specs.Stored.{unpacked_chunk}
-use Rattle.tiff_encode.proofs.Storing.{append_refused, append_cut, append_done, unpacked_is, unpacked_len, whole_rows}
+use Rattle.tiff_encode.proofs.Storing.{append_refused, append_cut, append_done, unpacked_len}
 use Rattle.tiff_encode.proofs.encoder.TiffEncoder.append_samples.Goals as goal
 
 pub returns-in_err-offset : goal.returns-in_err-offset
@@ -22,10 +22,6 @@ returns-in_err-offset g c =
     append_refused c.args.self.now i (length c.args.samples.now) (unpacked_chunk i numbers) c.in_ok-bytes.bytes c.in_err-offset.field-0.0 many c.in_err-offset.ensures in
     search rules
 
-pub append_rows-requires-clause-whole : goal.append_rows-requires-clause-whole
-append_rows-requires-clause-whole g c =
-    whole_rows c.args.image.now (length c.args.samples.now) c.row_and_stride-row.result.0 c.requires c.in_ok-bytes.ensures.1 c.row_and_stride-row.ensures.row
-
 pub returns-in_err-append_rows : goal.returns-in_err-append_rows
 returns-in_err-append_rows g c =
     let size = type_size g.T.TiffValue.value_type in
@@ -39,14 +35,11 @@ returns-in_err-append_rows g c =
     let many =
     unpacked_len i numbers size sized c.in_ok-bytes.bytes (c.in_ok-bytes.ensures.0
     ∙ ap (λ n. n * size) (sym long)) in
-    let same =
-    unpacked_is i numbers size sized c.image.inside.predictor c.row_and_stride-row.result.0 c.row_and_stride-row.result.1 (sym (ap (λ i. i.predictor) c.image.view_is))
-    c.row_and_stride-row.ensures.row c.row_and_stride-row.ensures.stride in
     let chunks = c.in-Ok.ensures.items ∙ ap (λ i. i.chunks) c.image.view_is in
     let told =
     append_cut old i (length c.args.samples.now) (unpacked_chunk i numbers) c.in_ok-bytes.bytes e new _ many c.in_ok-offset.ensures.0 c.in_ok-offset.ensures.2
     (subst (λ (xs : List ℕ). AppendIsStopped e old new
-    ⊎ AppendIsCut xs e old new) same c.in_err-append_rows.ensures)
+    ⊎ AppendIsCut xs e old new) c.sample_rows-rows.ensures.bytes c.in_err-append_rows.ensures)
     (λ j. record (c.image.view_is j) { chunks = chunks j }) in
     search rules
 
@@ -60,14 +53,11 @@ returns g c =
     let many =
     unpacked_len i numbers size sized c.in_ok-bytes.bytes (c.in_ok-bytes.ensures.0
     ∙ ap (λ n. n * size) (sym long)) in
-    let same =
-    unpacked_is i numbers size sized c.image.inside.predictor c.row_and_stride-row.result.0 c.row_and_stride-row.result.1 (sym (ap (λ i. i.predictor) c.image.view_is))
-    c.row_and_stride-row.ensures.row c.row_and_stride-row.ensures.stride in
     let before = c.in-Ok.ensures.items ∙ ap (λ i. i.chunks) c.image.view_is in
     let chunks =
     c.push_reserved.ensures.items
     ∙ (λ j. before j ++ (record { offset = c.in_ok-offset.offset; stored = many j }) ∷ []) in
     append_done c.args.self.now i (length c.args.samples.now) (unpacked_chunk i numbers) c.in_ok-bytes.bytes c.in_ok-offset.offset c.append_rows.new.self _ many
     c.in_ok-offset.ensures.2 c.in_ok-offset.ensures.1 (c.in_ok-append_rows.ensures.1
-    ∙ ap (file_with_bytes c.args.self.now) same)
+    ∙ ap (file_with_bytes c.args.self.now) c.sample_rows-rows.ensures.bytes)
     (λ j. record (c.image.view_is j) { chunks = chunks j })
