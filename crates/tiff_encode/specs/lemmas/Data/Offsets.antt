@@ -126,4 +126,30 @@ module _ (i : OpenImage) (drawn : IsValidImage i.width i.height (length i.color.
         ap (λ b. cond b (min (chunk_samples p c) (2 ^ 64 - 1)) 0) left
         ∙ (let w = within in omega (arith, w, l))
 
+    -- where the samples of the strip begin and end, by the height and a row of a chunk
+    strip_range : (high row count : ℕ) → high ≡ i.form.chunk_height → row ≡ row_samples p
+        → count ≡ next_chunk_sample_count i → image_samples i < 2 ^ 64
+        → (k * high < 2 ^ 32) × ((count ≡ chunk_samples p c)
+        × (k * high * row + count ≤ image_samples i))
+    strip_range high row count h r n l =
+        let m = n ∙ count_is l in
+        let low = above in
+        let most = drawn.high.1 in (
+          subst (λ x. k * x < 2 ^ 32) (sym h) (omega (arith, low, most)),
+          (m, subst (λ x. x ≤ image_samples i) (λ j. k * sym h j * sym r j + sym m j) within),
+        )
+
+-- `strip_range` of an image that another view shows
+pub next_strip : (v i : OpenImage) → v ≡ i
+    → IsValidImage v.width v.height (length v.color.bits) (length v.extra) v.form
+    → is_in_order i.form ≡ true → is_left i ≡ true → (k : ℕ) → k ≤ length i.chunks
+    → image_samples i < 2 ^ 64 → (high row count : ℕ) → high ≡ v.form.chunk_height
+    → row ≡ row_samples (image_page i) → count ≡ next_chunk_sample_count i
+    → (k * high < 2 ^ 32) × ((count ≡ chunk_samples (image_page i) (length i.chunks))
+    × (k * high * row + count ≤ image_samples i))
+next_strip v i is valid order left k known fits high row count h r n =
+    strip_range i
+    (subst (λ i. IsValidImage i.width i.height (length i.color.bits) (length i.extra) i.form) is valid)
+    order left k known high row count (h ∙ ap (λ i. i.form.chunk_height) is) r n fits
+
 -- ---- a part of a list

@@ -165,12 +165,11 @@ impl<T: Sample> ImageState<T> {
         ensures short { result.row < 2 ^ 48 }
         ensures stride { (0 < result.stride) × (result.stride ≤ result.row) }
     {
-        let stride = self.stored_samples() as usize;
         SampleRows {
             samples,
             predictor: self.predictor,
-            row: self.form.chunk_width as usize * stride,
-            stride,
+            row: self.row_samples() as usize,
+            stride: self.stored_samples() as usize,
         }
     }
 

@@ -156,13 +156,14 @@ impl<T: Sample> ImageState<T> {
             (rect_of chunk_area) row))
             (λ e. e ≡ TiffError.OutOfMemory) }
     {
-        let stored = self.stored_samples();
-        let len = u64::from(self.form.chunk_width) * stored;
         if row >= chunk_area.height {
-            return push_zeros(len, out);
+            return push_zeros(self.row_samples(), out);
         }
         self.push_pixels(samples, chunk_area, row, out)?;
-        push_zeros(len - chunk_area.width * stored, out)
+        push_zeros(
+            self.row_samples() - chunk_area.width * self.stored_samples(),
+            out,
+        )
     }
 
     // Returns the samples of a chunk out of all samples of the image, with zeros beyond the edges
@@ -205,10 +206,8 @@ impl<T: Sample> ImageState<T> {
             (length self.now.chunks) }
         ensures within { result.1 ≤ image_samples self.now }
     {
-        let row = u64::from(self.form.chunk_width) * self.stored_samples();
-        let start = written * u64::from(self.form.chunk_height) * row;
-        let end = start + self.next_samples();
-        (start, end)
+        let start = written * u64::from(self.form.chunk_height) * self.row_samples();
+        (start, start + self.next_samples())
     }
 
     // Returns the samples of the next strip out of samples in row order, after `written` strips of

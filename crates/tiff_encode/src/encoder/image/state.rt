@@ -5,7 +5,7 @@ ghost use Rattle.tiff_page.specs.Counts.{all_chunks, parts, planes_of};
 ghost use Rattle.tiff_page.specs.Pixels.{stored_samples};
 ghost use Rattle.tiff_page.specs.Rect.{chunks_of_plane};
 ghost use Rattle.tiff_encode.specs.Causes.{image_samples, is_past_chunks};
-ghost use Rattle.tiff_encode.specs.Chunks.{all_samples, chunk_rows, chunks_left, image_page, is_begun, is_in_order, is_left, next_chunk_sample_count, next_strip_sample_count};
+ghost use Rattle.tiff_encode.specs.Chunks.{all_samples, chunk_rows, chunks_left, image_page, is_begun, is_in_order, is_left, next_chunk_sample_count, next_strip_sample_count, row_samples};
 ghost use Rattle.tiff_encode.specs.Given.{StoresBytes};
 
 use crate::encoder::directory::state::{DirectoryState, HasDirectory, Room};
@@ -140,6 +140,14 @@ impl<T: Sample> ImageState<T> {
         }
     }
 
+    /// Returns the number of samples of a row of a chunk.
+    pub(crate) fn row_samples(&self) -> u64
+        ensures count { result ≡ row_samples (image_page self.now) }
+        ensures few { result < 2 ^ 48 }
+    {
+        u64::from(self.form.chunk_width) * self.stored_samples()
+    }
+
     // Returns the number of planes.
     fn planes(&self) -> u64
         ensures count { result ≡ planes_of self.now.form.planar (all_samples self.now) }
@@ -252,8 +260,8 @@ impl<T: Sample> ImageState<T> {
         if !self.is_left() {
             return 0;
         }
-        let row = u64::from(self.form.chunk_width) * self.stored_samples();
-        self.rows_of(self.chunks.len() as u64).saturating_mul(row)
+        self.rows_of(self.chunks.len() as u64)
+            .saturating_mul(self.row_samples())
     }
 
     /// `next_strip_sample_count`: returns the number of samples of the next strip, at most
