@@ -160,10 +160,8 @@ impl<T: Sample> ImageState<T> {
             return push_zeros(self.row_samples(), out);
         }
         self.push_pixels(samples, chunk_area, row, out)?;
-        push_zeros(
-            self.row_samples() - chunk_area.width * self.stored_samples(),
-            out,
-        )
+        let rest = self.row_samples() - chunk_area.width * self.stored_samples();
+        push_zeros(rest, out)
     }
 
     // Returns the samples of a chunk out of all samples of the image, with zeros beyond the edges
