@@ -168,6 +168,14 @@ test_is file kind type count d end n len k v at c l =
     ∙ ap (nat_lt (offset_len file.kind)) whole in
     λ i. by (is_past (k i) ((c ∙ sym v.1) i)) (long i) (is_past (k i) (at i))
 
+-- `test_is` of the data of a value, by what the value says of them
+pub value_test : (file : FileState) (given : Result FieldData TiffError) (d : FieldData)
+    → given ≡ Ok d → (type : «Type») (count : ℕ) → IsValue type count given
+    → {kind : FileKind} {end n len : ℕ} → kind ≡ file.kind → end ≡ end_of file → n ≡ count
+    → len ≡ byte_count count type → field_test kind end n len ≡ field_cause file d
+value_test file given d g type count v {kind} {end} {n} {len} k at c l =
+    test_is file kind type count d end n len k (subst (IsValue type count) g v) at c l
+
 module _ {X : Type 0} (view : X → Field) where
   pub entry_stopped : (given : Result FieldData TiffError) (file : FileState) (e : TiffError)
       → IsSome file.fault → e ≡ UsageError WriterFailed

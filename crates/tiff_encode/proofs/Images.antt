@@ -39,6 +39,12 @@ first_of i head chroma tail all h c t a =
     ∙ ap (λ x. fields_of (meaning_tags i) ++ x) (sym (map-append tell (chroma_tags i.color.interpretation) (layout_tags i)))
     ∙ sym (map-append tell (meaning_tags i) (chroma_tags i.color.interpretation ++ layout_tags i))
 
+-- the first tags of an image, made for another view of it and lent
+pub first_fields : {now given : List (Tag × FieldData)} {i j : OpenImage} → now ≡ given
+    → given ≡ fields_of (first_tags i) → i ≡ j
+    → now ≡ fields_of (first_tags j)
+first_fields lent made same = lent ∙ made ∙ ap (λ i. fields_of (first_tags i)) same
+
 -- the checks of an image return the error that refuses `new_image`
 pub begins_uncaused : (file : FileState) (color : ColorTypeRecord) (kind : FileKind) (end : ℕ)
     (predictor : Predictor)

@@ -328,31 +328,49 @@ module _ (file : FileState) (i : OpenImage) (count : ℕ) (h : write_image_data_
 -- ---- the end of the image
 
 module _ (i : OpenImage) (samples : List ℕ) (n : ℕ) (counted : n ≡ length samples)
-    (old mid new : FileState) (next : OpenImage)
-    (uncaused_at : write_image_data_cause old i n ≡ None)
-    (h : (let r : Result (Unit {0}) TiffError = Ok tt in WritesChunks i (parts_left i samples) r old mid next)) where
+    (old start mid : FileState) (next : OpenImage)
+    (uncaused_at : write_image_data_cause old i n ≡ None) (same : start ≡ old) where
   no_cause : write_image_data_cause old i (length samples) ≡ None
   no_cause = ap (write_image_data_cause old i) (sym counted) ∙ uncaused_at
 
-  ends_whole : (r : Result Offsets TiffError) → Ends (λ d. d) (finish_image next mid) r mid new
-      → Ends (λ d. d) (write_image_data i samples h.0 old) r old new
-  unfolding write_image_data
-  ends_whole r f =
-      let chunks : WriteCall OpenImage = write_chunks i (parts_left i samples) h.0 in
-      uncaused (λ d. d) (write_image_data_cause old i (length samples)) (chunks
-      >>= (λ last. finish_image last)) r old new no_cause
-      (bind_ends_adding (λ d. d) chunks (λ last. finish_image last) next r old mid new (chunks_adding i (parts_left i samples) h.0 old) h.1.1.1 f)
+  from_old : (r : Result (Unit {0}) TiffError)
+      → WritesChunks i (parts_left i samples) r start mid next
+      → WritesChunks i (parts_left i samples) r old mid next
+  from_old r h = subst (λ o. WritesChunks i (parts_left i samples) r o mid next) same h
 
-  pub data_done : (offsets : Offsets) → EndsAsDefined (finish_image next mid) (Ok offsets) new
-      → (let r : Result (Unit {0}) TiffError = Ok tt in WritesImageData i samples r old new)
-  data_done offsets f =
-      let r : Result (Unit {0}) TiffError = Ok tt in
-      subst (λ cause. WritesDataBy cause i samples r old new) (sym no_cause)
-      (inl (h.0, (h.1.0, (h.1.1.0, (offsets, ends_whole (Ok offsets) f)))))
-
-  pub data_fails : (e : TiffError) → CallFails (finish_image next mid) e mid new
-      → (let r : Result (Unit {0}) TiffError = Err e in WritesImageData i samples r old new)
-  data_fails e f =
+  -- where a chunk failed
+  pub data_stopped : (e : TiffError)
+      → (let r : Result (Unit {0}) TiffError = Err e in WritesChunks i (parts_left i samples) r start mid next)
+      → (let r : Result (Unit {0}) TiffError = Err e in WritesImageData i samples r old mid)
+  data_stopped e h =
       let r : Result (Unit {0}) TiffError = Err e in
-      subst (λ cause. WritesDataBy cause i samples r old new) (sym no_cause)
-      (inl (h.0, (h.1.0, (h.1.1.0, ends_whole (Err e) f))))
+      subst (λ cause. WritesDataBy cause i samples r old mid) (sym no_cause)
+      (inr (from_old r h))
+
+  module _ (new : FileState)
+      (h : (let r : Result (Unit {0}) TiffError = Ok tt in WritesChunks i (parts_left i samples) r start mid next)) where
+    abbrev all : (let r : Result (Unit {0}) TiffError = Ok tt in WritesChunks i (parts_left i samples) r old mid next)
+    all = from_old (Ok tt) h
+
+    ends_whole : (r : Result Offsets TiffError) → Ends (λ d. d) (finish_image next mid) r mid new
+        → Ends (λ d. d) (write_image_data i samples all.0 old) r old new
+    unfolding write_image_data
+    ends_whole r f =
+        let chunks : WriteCall OpenImage = write_chunks i (parts_left i samples) all.0 in
+        uncaused (λ d. d) (write_image_data_cause old i (length samples)) (chunks
+        >>= (λ last. finish_image last)) r old new no_cause
+        (bind_ends_adding (λ d. d) chunks (λ last. finish_image last) next r old mid new (chunks_adding i (parts_left i samples) all.0 old) all.1.1.1 f)
+
+    pub data_done : (offsets : Offsets) → EndsAsDefined (finish_image next mid) (Ok offsets) new
+        → (let r : Result (Unit {0}) TiffError = Ok tt in WritesImageData i samples r old new)
+    data_done offsets f =
+        let r : Result (Unit {0}) TiffError = Ok tt in
+        subst (λ cause. WritesDataBy cause i samples r old new) (sym no_cause)
+        (inl (all.0, (all.1.0, (all.1.1.0, (offsets, ends_whole (Ok offsets) f)))))
+
+    pub data_fails : (e : TiffError) → CallFails (finish_image next mid) e mid new
+        → (let r : Result (Unit {0}) TiffError = Err e in WritesImageData i samples r old new)
+    data_fails e f =
+        let r : Result (Unit {0}) TiffError = Err e in
+        subst (λ cause. WritesDataBy cause i samples r old new) (sym no_cause)
+        (inl (all.0, (all.1.0, (all.1.1.0, ends_whole (Err e) f))))
