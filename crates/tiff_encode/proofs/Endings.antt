@@ -210,18 +210,22 @@ module _ (kind : FileKind) (i : OpenImage) where
       ∙ ap (λ vs. fields_of vs) (append_assoc (bits_tags i.color.bits (length i.extra))
       ((tag.SampleFormat, formats (extended_by_first i.color.formats (length i.extra))) ∷ []) last_part)
 
-  -- the parameters of a call, equal to those of the image
-  module _ (d : OpenDirectory) (bits : List ℕ) (kinds : List SampleFormat) (extra : ℕ)
-      (at : d ≡ i.directory) (b : bits ≡ i.color.bits)
-      (f : kinds ≡ i.color.formats) (x : extra ≡ length i.extra) where
+  -- another view of the image, of which a call passes parts, and its number of extra samples
+  module _ (v : OpenImage) (is : v ≡ i) (extra : ℕ) (x : extra ≡ length v.extra) where
+    -- the tags of the samples, as the call passes them
+    abbrev sample_fields : List (Tag × FieldData)
+    sample_fields = fields_of (samples_tags v.color.bits v.color.formats extra)
+
     first_given : (old : FileState)
-        → write_fields d (fields_of (samples_tags bits kinds extra)) old
+        → write_fields v.directory sample_fields old
         ≡ write_fields i.directory (fields_of first_part) old
-    first_given old j = write_fields (at j) (fields_of (samples_tags (b j) (f j) (x j))) old
+    first_given old =
+        ap (λ n. write_fields v.directory (fields_of (samples_tags v.color.bits v.color.formats n)) old) x
+        ∙ ap (λ w. write_fields w.directory (fields_of (samples_tags w.color.bits w.color.formats (length w.extra))) old) is
 
     -- writing the tags of the samples fails
     pub samples_unwritten : (e : TiffError) (old new : FileState)
-        → CallFails (write_fields d (fields_of (samples_tags bits kinds extra)) old) e old new
+        → CallFails (write_fields v.directory sample_fields old) e old new
         → CallFails (write_fields i.directory (fields_of (last_tags kind i)) old) e old new
     samples_unwritten e old new h =
         let others : List (Tag × Scalars) =
@@ -234,15 +238,15 @@ module _ (kind : FileKind) (i : OpenImage) where
 
     -- the tags of the samples are written, and then the lists
     pub last_set : {X : Type 0} (view : X → OpenDirectory) (next : OpenDirectory) (k : FileKind)
-        (type : ChunkType) (chunks : List Chunk)
-        (r : Result X TiffError) (old mid new : FileState) → kind ≡ k → type ≡ i.form.chunk_type
-        → chunks ≡ i.chunks
-        → EndsAsDefined (write_fields d (fields_of (samples_tags bits kinds extra)) old) (Ok next) mid
-        → Ends view (write_fields next (fields_of (list_tags k type chunks)) mid) r mid new
+        (chunks : List Chunk)
+        (r : Result X TiffError) (old mid new : FileState) → kind ≡ k → chunks ≡ v.chunks
+        → EndsAsDefined (write_fields v.directory sample_fields old) (Ok next) mid
+        → Ends view (write_fields next (fields_of (list_tags k v.form.chunk_type chunks)) mid) r mid new
         → Ends view (write_fields i.directory (fields_of (last_tags kind i)) old) r old new
-    last_set view next k type chunks r old mid new q t c h e =
-        let lists : fields_of (list_tags k type chunks) ≡ fields_of last_part =
-        λ j. fields_of (list_tags (sym q j) (t j) (c j)) in
+    last_set view next k chunks r old mid new q c h e =
+        let lists : fields_of (list_tags k v.form.chunk_type chunks) ≡ fields_of last_part =
+        (λ j. fields_of (list_tags (sym q j) v.form.chunk_type (c j)))
+        ∙ ap (λ w. fields_of (list_tags kind w.form.chunk_type w.chunks)) is in
         subst (λ vs. Ends view (write_fields i.directory vs old) r old new) last_split
         (fields_end view i.directory next (fields_of first_part) (fields_of last_part) r old mid new
         (subst (λ told. EndsAsDefined told (Ok next) mid) (first_given old) h)
