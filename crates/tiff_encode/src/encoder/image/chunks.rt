@@ -160,6 +160,9 @@ impl<T: Sample> ImageState<T> {
         requires few { length samples.now < 2 ^ 64 - 1 }
         ensures bytes { row_bytes T.value_type T.bits result ≡ stored.unpacked_chunk self.now
             (map (sample_number (type_size T.value_type) T.bits) samples.now) }
+        ensures len { length samples.now * type_size T.value_type ≡ length
+            (stored.unpacked_chunk self.now
+            (map (sample_number (type_size T.value_type) T.bits) samples.now)) }
         ensures whole { length result.samples.now % result.row ≡ 0 }
         ensures row { result.row ≡ row_samples (image_page self.now) }
         ensures short { result.row < 2 ^ 48 }

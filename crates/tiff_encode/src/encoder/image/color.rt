@@ -99,12 +99,20 @@ impl ImageColor {
         (u64::from(width) * u64::from(self.bits)).div_ceil(8) as u32
     }
 
+    // Returns a value for each sample, and for `extra` more.
+    fn for_samples<V>(&self, value: V, extra: usize) -> Repeated<V>
+        requires { length self.now.bits + extra < 2 ^ 16 }
+        ensures { result ≡ extended_by_first (replicate (length self.now.bits) value) extra }
+    {
+        Repeated::of(value, usize::from(self.samples) + extra)
+    }
+
     /// Returns the number of bits of each sample, with `extra` more like the first.
     pub(crate) fn bits_with(&self, extra: usize) -> Repeated<u16>
         requires { length self.now.bits + extra < 2 ^ 16 }
         ensures { result ≡ extended_by_first self.now.bits extra }
     {
-        Repeated::of(self.bits, usize::from(self.samples) + extra)
+        self.for_samples(self.bits, extra)
     }
 
     /// Returns the format of each sample, with `extra` more like the first.
@@ -112,7 +120,7 @@ impl ImageColor {
         requires { length self.now.bits + extra < 2 ^ 16 }
         ensures { result ≡ extended_by_first self.now.formats extra }
     {
-        Repeated::of(self.format, usize::from(self.samples) + extra)
+        self.for_samples(self.format, extra)
     }
 }
 
