@@ -21,6 +21,7 @@ use Rattle.tiff_encode.specs.FileWrites.{file_with_bytes}
 use Rattle.tiff_encode.specs.Causes.{end_of, begin_cause, write_tag_cause, write_buf_cause, write_entry_bytes_cause, write_data_cause, write_data_buf_cause}
 use Rattle.tiff_encode.specs.Calls.{new_directory, pad, image_directory, extra_directory, with_field, placed_field, appends, with_chunk, appends_chunk, write_entry, write_entry_buf, write_entry_bytes, write_tag, write_tag_buf, write_data, write_data_buf}
 use Rattle.tiff_encode.specs.Ends.{EndsAsDefined, HasBegun, CallFails, Ends}
+use Rattle.tiff_encode.specs.Jobs.{open_directory}
 use Rattle.tiff_value.specs.lemmas.File.WriteOps.{ops_append}
 use Rattle.tiff_encode.proofs.Leaving.{ok_err}
 
@@ -416,6 +417,10 @@ begin_adds file = opens_adds (begin_cause file) (new_directory (Some file.chain)
 pub extra_adds : (file : FileState) → Adds (extra_directory file) file
 unfolding extra_directory
 extra_adds file = opens_adds (begin_cause file) (new_directory None false) file
+
+pub open_adds : (chained : Bool) (file : FileState) → Adds (open_directory chained file) file
+open_adds true file = begin_adds file
+open_adds false file = extra_adds file
 
 -- appending bytes only appends
 pub appends_adds : (bytes : List ℕ) (file : FileState) → Adds (appends bytes file) file
