@@ -124,7 +124,7 @@ tag_called d t (Given value) file = refl
 tag_called d t v file = refl
 
 -- writing a value only appends, and no sink error precedes a success
-value_adds : (v : Value) (file : FileState) → Adds (entry_of v file) file
+pub value_adds : (v : Value) (file : FileState) → Adds (entry_of v file) file
 value_adds (Given value) file = entry_adds value file
 value_adds (Lent b) file = entry_buf_adds b file
 value_adds (Bytes type bytes) file = entry_bytes_adds type bytes file

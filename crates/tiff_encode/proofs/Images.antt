@@ -21,7 +21,7 @@ use Rattle.tiff_encode.specs.Causes.{begin_cause, end_of, is_unpredicted, image_
 use Rattle.tiff_encode.specs.Tagging.{write_fields, fields_of}
 use Rattle.tiff_encode.proofs.Calling.{refused, uncaused, wanting, fresh_cause}
 use Rattle.tiff_encode.proofs.Guarding.{opened_told, opened_fails}
-use Rattle.tiff_encode.proofs.Joining.{Adds, bind_told, bind_ends, bind_fails, begin_adds}
+use Rattle.tiff_encode.proofs.Joining.{Adds, adding, bind_told, bind_ends, bind_fails, begin_adds}
 use Rattle.tiff_encode.proofs.Tagging.{tags_are_fields, fields_adds}
 
 -- the tags of a new image, part by part
@@ -149,7 +149,7 @@ module _ (color : ColorTypeRecord) (size width height : ℕ) (old : FileState) w
   image_padded r mid new c f s h =
       let told : EndsAsDefined (image_directory old) (Ok blank) mid =
       opened_told true empty (Some old.chain) old mid (f, s) refl refl in
-      uncaused_image r new c (bind_ends (λ i. i) image_directory tagged blank r old mid new (begin_adds old) told h)
+      uncaused_image r new c (bind_ends (λ i. i) image_directory tagged blank r old mid new (adding _ old (begin_adds old)) told h)
 
   -- `new_image` fails at the tags
   pub image_untagged : (values : List (Tag × FieldData)) (e : TiffError) (mid new : FileState)

@@ -315,19 +315,10 @@ bind_told call rest x r old mid new h t =
 -- If the first call succeeds, both calls end as the second call ends.
 pub bind_ends : {X A B : Type 0} (view : X → B) (call : WriteCall A) (rest : A → WriteCall B)
     (x : A) (r : Result X TiffError)
-    (old mid new : FileState) → Adds (call old) old → EndsAsDefined (call old) (Ok x) mid
-    → Ends view (rest x mid) r mid new
-    → Ends view ((call >>= rest) old) r old new
-bind_ends view call rest x r old mid new a h e =
-    after_ends rest view (call old).answer (call old).ops (call old).next x old mid new r a.next h.answer h.state e
-
--- If the first call succeeds and may change nothing, both calls end as the second call ends.
-pub bind_ends_adding : {X A B : Type 0} (view : X → B) (call : WriteCall A) (rest : A → WriteCall B)
-    (x : A) (r : Result X TiffError)
     (old mid new : FileState) → IsAdding (call old) old → EndsAsDefined (call old) (Ok x) mid
     → Ends view (rest x mid) r mid new
     → Ends view ((call >>= rest) old) r old new
-bind_ends_adding view call rest x r old mid new a h e =
+bind_ends view call rest x r old mid new a h e =
     after_ends rest view (call old).answer (call old).ops (call old).next x old mid new r a.next h.answer h.state e
 
 -- If the first call fails, both calls fail.
