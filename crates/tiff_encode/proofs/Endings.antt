@@ -23,7 +23,7 @@ use Rattle.tiff_encode.specs.Machine.{Chunk, FileState, OpenDirectory, OpenImage
 use Rattle.tiff_encode.specs.Tagging.{write_fields, fields_of}
 use Rattle.tiff_value.specs.Fields.{offset_values}
 use Rattle.tiff_value.specs.FileBytes.{offset_len}
-use Rattle.tiff_encode.proofs.Joining.{Adds, tag_adds, bind_told, bind_ends, bind_fails}
+use Rattle.tiff_encode.proofs.Joining.{Adds, adding, tag_adds, bind_told, bind_ends, bind_fails}
 use Rattle.tiff_encode.proofs.Tagging.{tags_are_fields, fields_adds, fields_end, fields_fail}
 
 -- offsets are written as numbers
@@ -64,7 +64,7 @@ module _ (d : OpenDirectory) (t : Tag) (v : FieldData) where
       let others : OpenDirectory → WriteCall OpenDirectory = λ n. write_fields n ((u, w) ∷ []) in
       let last : OpenDirectory → WriteCall OpenDirectory = λ n. write_fields n [] in
       let view : OpenDirectory → OpenDirectory = λ x. x in
-      bind_ends view (write_tag d t (Ok v)) others next (Err e) old mid new (tag_adds d t (Ok v) old) h
+      bind_ends view (write_tag d t (Ok v)) others next (Err e) old mid new (adding _ old (tag_adds d t (Ok v) old)) h
       (bind_fails (write_tag next u (Ok w)) last e mid new (tag_adds next u (Ok w) mid) f)
 
   -- both tags are written
@@ -285,6 +285,6 @@ module _ (i : OpenImage) (old : FileState) where
       → Ends view (finish_image i old) r old new
   unfolding finish_image
   image_ends view last given r mid new h q e =
-      bind_ends view (write_tags i.directory tags_last) finish last r old mid new last_add
+      bind_ends view (write_tags i.directory tags_last) finish last r old mid new (adding _ old last_add)
       (subst (λ told. EndsAsDefined told (Ok last) mid) (sym (tags_are_fields i.directory tags_last old)) h)
       (subst (λ d. Ends view (finish d mid) r mid new) q e)

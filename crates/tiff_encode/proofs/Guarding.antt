@@ -3,6 +3,7 @@ use Rattle.std.proofs.Common.{◌≡◌, ℕ, ◌+◌, ◌^◌, ◌<◌, ◌⊎�
 use Rattle.std.proofs.lemmas.Bool.{ltb-false}
 use Rattle.std.proofs.lemmas.List.{length-append, take_at}
 use Rattle.std.proofs.lemmas.List.Sums.{fold-append}
+use Rattle.std.specs.Bool.{then_some}
 use Rattle.std.specs.FinMap.{FinMap, empty, insert, len}
 use Rattle.std.specs.Prelude.{nat_lt}
 use Rattle.std.specs.Ordering.{nat_cmp}
@@ -27,10 +28,11 @@ use Rattle.tiff_encode.specs.Causes.{unless_ended, end_of, begin_cause, field_ca
 use Rattle.tiff_encode.specs.Calls.{Offsets, offsets_of, links_to, chains, new_directory, pad, image_directory, extra_directory, with_field, placed_field, write_entry, write_tag, write_entry_buf, write_entry_bytes, write_tag_buf, appends, write_data, write_data_buf, extend_from, finish}
 use Rattle.tiff_encode.specs.Ends.{EndsAsDefined, CallFails, Ends}
 use Rattle.tiff_encode.specs.GivenValues.{Value, Given, Lent, Bytes, entry_of, tag_of}
+use Rattle.tiff_encode.specs.Jobs.{open_directory}
 use Rattle.tiff_encode.specs.Leaves.{IsGiven, Leaves, LeavesTorn, LeavesLinked}
 use Rattle.tiff_encode.proofs.Calling.{cut_off, refused, uncaused, stopped_cause, fresh_cause}
 use Rattle.tiff_encode.proofs.CallFits.{caused_fits, offset_len_8, placed_fits}
-use Rattle.tiff_encode.proofs.Joining.{Adds, begin_adds, bind_fails, bind_told, data_adds, data_buf_adds, entry_adds, entry_buf_adds, entry_bytes_adds, extra_adds}
+use Rattle.tiff_encode.proofs.Joining.{Adds, bind_fails, bind_told, data_adds, data_buf_adds, entry_adds, entry_buf_adds, entry_bytes_adds, open_adds}
 use Rattle.tiff_encode.proofs.Keeping.{adds_leaves, failed_leaves}
 use Rattle.tiff_encode.proofs.Leaving.{refused_leaves, ok_err, unended, in_order, passed, data_whole, data_short, finish_plain, finish_leaves}
 
@@ -64,38 +66,33 @@ opens_fails d e old new h =
           (subst (λ xs. AppendIsCut xs e old new) (sym (append-nil (padding (end_of old)))) c))))
     ]
 
--- `image_directory` succeeds
-pub begun_told : (old new : FileState) (fields : FinMap nat_cmp Field) (chain : ℕ)
+-- the directory that a call opens, in the chain or outside it
+abbrev opened : Bool → FileState → OpenDirectory
+opened chained file = new_directory (then_some chained file.chain) chained
+
+opening : (chained : Bool) (file : FileState)
+    → open_directory chained file ≡ by_cause (begin_cause file) (opens (opened chained file)) file
+unfolding image_directory extra_directory
+opening true file = refl
+opening false file = refl
+
+pub opened_told : (chained : Bool) (fields : FinMap nat_cmp Field) (parent : Option ℕ)
+    (old new : FileState)
     → (old.fault ≡ None) × (new ≡ file_with_bytes old (padding (end_of old))) → fields ≡ empty
-    → chain ≡ new.chain
-    → EndsAsDefined (image_directory old) (Ok (record { fields = fields; parent = Some chain; chained = true })) new
-unfolding image_directory
-begun_told old new fields chain h f c =
-    let last : chain ≡ old.chain = c ∙ ap (λ s. s.chain) h.1 in
-    subst (λ d. EndsAsDefined (image_directory old) (Ok d) new)
-    (sym (λ i. record { fields = f i; parent = Some (last i); chained = true }))
-    (opens_told (new_directory (Some old.chain) true) old new h.0 h.1)
+    → parent ≡ then_some chained old.chain
+    → EndsAsDefined (open_directory chained old) (Ok (record { fields = fields; parent = parent; chained = chained })) new
+opened_told chained fields parent old new h f p =
+    let d : OpenDirectory = record { fields = fields; parent = parent; chained = chained } in
+    let is : d ≡ opened chained old =
+    λ i. record { fields = f i; parent = p i; chained = chained } in
+    subst (λ told. EndsAsDefined told (Ok d) new) (sym (opening chained old))
+    (subst (λ x. EndsAsDefined (by_cause (begin_cause old) (opens (opened chained old)) old) (Ok x) new) (sym is) (opens_told (opened chained old) old new h.0 h.1))
 
-pub begun_fails : (e : TiffError) (old new : FileState)
+pub opened_fails : (chained : Bool) (e : TiffError) (old new : FileState)
     → AppendIsStopped e old new ⊎ AppendIsCut (padding (end_of old)) e old new
-    → CallFails (image_directory old) e old new
-unfolding image_directory
-begun_fails e old new h = opens_fails (new_directory (Some old.chain) true) e old new h
-
--- `extra_directory` succeeds
-pub extra_told : (old new : FileState) (fields : FinMap nat_cmp Field)
-    → (old.fault ≡ None) × (new ≡ file_with_bytes old (padding (end_of old))) → fields ≡ empty
-    → EndsAsDefined (extra_directory old) (Ok (record { fields = fields; parent = None; chained = false })) new
-unfolding extra_directory
-extra_told old new fields h f =
-    subst (λ d. EndsAsDefined (extra_directory old) (Ok d) new) (sym (λ i. record { fields = f i; parent = None; chained = false }))
-    (opens_told (new_directory None false) old new h.0 h.1)
-
-pub extra_fails : (e : TiffError) (old new : FileState)
-    → AppendIsStopped e old new ⊎ AppendIsCut (padding (end_of old)) e old new
-    → CallFails (extra_directory old) e old new
-unfolding extra_directory
-extra_fails e old new h = opens_fails (new_directory None false) e old new h
+    → CallFails (open_directory chained old) e old new
+opened_fails chained e old new h =
+    subst (λ told. CallFails told e old new) (sym (opening chained old)) (opens_fails (opened chained old) e old new h)
 
 -- ---- a call, and a result made of its value
 
@@ -127,7 +124,7 @@ tag_called d t (Given value) file = refl
 tag_called d t v file = refl
 
 -- writing a value only appends, and no sink error precedes a success
-value_adds : (v : Value) (file : FileState) → Adds (entry_of v file) file
+pub value_adds : (v : Value) (file : FileState) → Adds (entry_of v file) file
 value_adds (Given value) file = entry_adds value file
 value_adds (Lent b) file = entry_buf_adds b file
 value_adds (Bytes type bytes) file = entry_bytes_adds type bytes file
@@ -164,25 +161,15 @@ opens_fits : (cause : Option TiffError) (d : OpenDirectory) (file : FileState) (
     → OpsFit file.kind file.bytes m (by_cause cause (opens d) file).ops
 opens_fits cause d file m = caused_fits cause (opens d) file m (λ _. (tt, tt))
 
-pub begin_leaves : {X : Type 0} (view : X → OpenDirectory) (r : Result X TiffError)
-    (old new : FileState) (m : Model)
-    → FileContains old.kind old.bytes m → Ends view (image_directory old) r old new
-    → Leaves (image_directory old) r old new m
-unfolding image_directory
-begin_leaves view r old new m s e =
-    let d : OpenDirectory = new_directory (Some old.chain) true in
-    adds_leaves view (by_cause (begin_cause old) (opens d) old) r old new m (begin_adds old)
-    (opens_fits (begin_cause old) d old m) s e
-
-pub extra_leaves : {X : Type 0} (view : X → OpenDirectory) (r : Result X TiffError)
-    (old new : FileState) (m : Model)
-    → FileContains old.kind old.bytes m → Ends view (extra_directory old) r old new
-    → Leaves (extra_directory old) r old new m
-unfolding extra_directory
-extra_leaves view r old new m s e =
-    let d : OpenDirectory = new_directory None false in
-    adds_leaves view (by_cause (begin_cause old) (opens d) old) r old new m (extra_adds old)
-    (opens_fits (begin_cause old) d old m) s e
+pub opened_leaves : (chained : Bool) (r : Result OpenDirectory TiffError) (old new : FileState)
+    (m : Model)
+    → FileContains old.kind old.bytes m
+    → Ends (λ (d : OpenDirectory). d) (open_directory chained old) r old new
+    → Leaves (open_directory chained old) r old new m
+opened_leaves chained r old new m s e =
+    let d : OpenDirectory = opened chained old in
+    adds_leaves (λ d. d) (open_directory chained old) r old new m (open_adds chained old)
+    (subst (λ told. OpsFit old.kind old.bytes m told.ops) (sym (opening chained old)) (opens_fits (begin_cause old) d old m)) s e
 
 -- what `write_data` and `write_data_buf` leave
 data_fits : (value : Result FieldData TiffError) (file : FileState) (m : Model)
@@ -336,22 +323,6 @@ pub entry_leaves : (v : Value) (r : Result Field TiffError) (old new : FileState
 entry_leaves v (Ok field) old new m a fits h s = entry_left v field old new m a fits h s
 entry_leaves v (Err e) old new m a fits h s =
     failed_leaves (entry_of v old) e old new m (value_adds v old) h s
-
--- ---- a directory after its opening
-
-pub begun_left : (old new : FileState) (d : OpenDirectory) (m : Model)
-    → EndsAsDefined (image_directory old) (Ok d) new
-    → FileContains old.kind old.bytes m
-    → FileContains old.kind new.bytes (model_after old.kind old.bytes m (image_directory old).ops)
-begun_left old new d m h s =
-    let view : OpenDirectory → OpenDirectory = λ f. f in begin_leaves view (Ok d) old new m s h
-
-pub extra_left : (old new : FileState) (d : OpenDirectory) (m : Model)
-    → EndsAsDefined (extra_directory old) (Ok d) new
-    → FileContains old.kind old.bytes m
-    → FileContains old.kind new.bytes (model_after old.kind old.bytes m (extra_directory old).ops)
-extra_left old new d m h s =
-    let view : OpenDirectory → OpenDirectory = λ f. f in extra_leaves view (Ok d) old new m s h
 
 -- ---- the end of a directory
 

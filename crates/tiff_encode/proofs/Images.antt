@@ -20,8 +20,8 @@ use Rattle.tiff_encode.specs.Calls.{new_directory, pad, image_directory, write_t
 use Rattle.tiff_encode.specs.Causes.{begin_cause, end_of, is_unpredicted, image_cause, new_image_cause}
 use Rattle.tiff_encode.specs.Tagging.{write_fields, fields_of}
 use Rattle.tiff_encode.proofs.Calling.{refused, uncaused, wanting, fresh_cause}
-use Rattle.tiff_encode.proofs.Guarding.{begun_told, begun_fails}
-use Rattle.tiff_encode.proofs.Joining.{Adds, bind_told, bind_ends, bind_fails, begin_adds}
+use Rattle.tiff_encode.proofs.Guarding.{opened_told, opened_fails}
+use Rattle.tiff_encode.proofs.Joining.{Adds, adding, bind_told, bind_ends, bind_fails, begin_adds}
 use Rattle.tiff_encode.proofs.Tagging.{tags_are_fields, fields_adds}
 
 -- the tags of a new image, part by part
@@ -144,7 +144,7 @@ module _ (color : ColorTypeRecord) (size width height : ℕ) (old : FileState) w
       → AppendIsStopped e old new ⊎ AppendIsCut (padding (end_of old)) e old new
       → Ends (λ i. i) (new_image color size width height old) (Err e) old new
   image_unpadded e new c h =
-      uncaused_image (Err e) new c (bind_fails image_directory tagged e old new (begin_adds old) (begun_fails e old new h))
+      uncaused_image (Err e) new c (bind_fails image_directory tagged e old new (begin_adds old) (opened_fails true e old new h))
 
   -- `new_image` appends the zeros and continues with the tags
   image_padded : (r : Result OpenImage TiffError) (mid new : FileState)
@@ -154,8 +154,8 @@ module _ (color : ColorTypeRecord) (size width height : ℕ) (old : FileState) w
       → Ends (λ i. i) (new_image color size width height old) r old new
   image_padded r mid new c f s h =
       let told : EndsAsDefined (image_directory old) (Ok blank) mid =
-      begun_told old mid empty old.chain (f, s) refl (sym (ap (λ n. n.chain) s)) in
-      uncaused_image r new c (bind_ends (λ i. i) image_directory tagged blank r old mid new (begin_adds old) told h)
+      opened_told true empty (Some old.chain) old mid (f, s) refl refl in
+      uncaused_image r new c (bind_ends (λ i. i) image_directory tagged blank r old mid new (adding _ old (begin_adds old)) told h)
 
   -- `new_image` fails at the tags
   pub image_untagged : (values : List (Tag × FieldData)) (e : TiffError) (mid new : FileState)

@@ -21,6 +21,7 @@ use Rattle.tiff_encode.specs.FileWrites.{file_with_bytes}
 use Rattle.tiff_encode.specs.Causes.{end_of, begin_cause, write_tag_cause, write_buf_cause, write_entry_bytes_cause, write_data_cause, write_data_buf_cause}
 use Rattle.tiff_encode.specs.Calls.{new_directory, pad, image_directory, extra_directory, with_field, placed_field, appends, with_chunk, appends_chunk, write_entry, write_entry_buf, write_entry_bytes, write_tag, write_tag_buf, write_data, write_data_buf}
 use Rattle.tiff_encode.specs.Ends.{EndsAsDefined, HasBegun, CallFails, Ends}
+use Rattle.tiff_encode.specs.Jobs.{open_directory}
 use Rattle.tiff_value.specs.lemmas.File.WriteOps.{ops_append}
 use Rattle.tiff_encode.proofs.Leaving.{ok_err}
 
@@ -314,19 +315,10 @@ bind_told call rest x r old mid new h t =
 -- If the first call succeeds, both calls end as the second call ends.
 pub bind_ends : {X A B : Type 0} (view : X → B) (call : WriteCall A) (rest : A → WriteCall B)
     (x : A) (r : Result X TiffError)
-    (old mid new : FileState) → Adds (call old) old → EndsAsDefined (call old) (Ok x) mid
-    → Ends view (rest x mid) r mid new
-    → Ends view ((call >>= rest) old) r old new
-bind_ends view call rest x r old mid new a h e =
-    after_ends rest view (call old).answer (call old).ops (call old).next x old mid new r a.next h.answer h.state e
-
--- If the first call succeeds and may change nothing, both calls end as the second call ends.
-pub bind_ends_adding : {X A B : Type 0} (view : X → B) (call : WriteCall A) (rest : A → WriteCall B)
-    (x : A) (r : Result X TiffError)
     (old mid new : FileState) → IsAdding (call old) old → EndsAsDefined (call old) (Ok x) mid
     → Ends view (rest x mid) r mid new
     → Ends view ((call >>= rest) old) r old new
-bind_ends_adding view call rest x r old mid new a h e =
+bind_ends view call rest x r old mid new a h e =
     after_ends rest view (call old).answer (call old).ops (call old).next x old mid new r a.next h.answer h.state e
 
 -- If the first call fails, both calls fail.
@@ -416,6 +408,10 @@ begin_adds file = opens_adds (begin_cause file) (new_directory (Some file.chain)
 pub extra_adds : (file : FileState) → Adds (extra_directory file) file
 unfolding extra_directory
 extra_adds file = opens_adds (begin_cause file) (new_directory None false) file
+
+pub open_adds : (chained : Bool) (file : FileState) → Adds (open_directory chained file) file
+open_adds true file = begin_adds file
+open_adds false file = extra_adds file
 
 -- appending bytes only appends
 pub appends_adds : (bytes : List ℕ) (file : FileState) → Adds (appends bytes file) file

@@ -121,6 +121,22 @@ begun_leaves ops count old bytes m h s =
     subst (λ b. FileContains old.kind b m) (sym h) (ops_begun old.kind old.bytes m ops count s)
 
 -- a link that the sink fails to write in full has some number in its field
+pub torn_as : {Y : Type 0} (told : WriteOutcome Y) (e : TiffError) (old new : FileState) (m : Model)
+    → OpsFit old.kind old.bytes m told.ops → FileContains old.kind old.bytes m
+    → (t : LinkWriteFailed told.ops e old new) → AreAppending t.before
+    → LeavesTorn told e old new m
+torn_as told e old new m f s t a =
+    let fit : OpsFit old.kind old.bytes m (t.before ++ Linked t.offset t.target ∷ []) =
+    subst (λ ds. OpsFit old.kind old.bytes m ds) t.last f in
+    let x = ops_torn old.kind old.bytes m t.before t.offset t.target t.count a s fit in
+    record {
+      torn = t;
+      holds = x.0;
+      stands =
+          subst (λ b. FileContains old.kind b (with_link old.kind (model_after old.kind old.bytes m t.before) t.offset x.0))
+          (sym (ap (λ f. f.bytes) t.state)) x.1;
+    }
+
 pub torn_leaves : {Y : Type 0} (told : WriteOutcome Y) (e : TiffError) (old new : FileState)
     (m : Model) → IsPlain told old
     → OpsFit old.kind old.bytes m told.ops → FileContains old.kind old.bytes m
@@ -130,17 +146,7 @@ torn_leaves told e old new m p f s t =
     let l = p.links in
     let few : link_count t.before ≡ 0 =
     omega (arith, l, count_last told.ops t.before t.offset t.target t.last) in
-    let fit : OpsFit old.kind old.bytes m (t.before ++ Linked t.offset t.target ∷ []) =
-    subst (λ ds. OpsFit old.kind old.bytes m ds) t.last f in
-    let x =
-    ops_torn old.kind old.bytes m t.before t.offset t.target t.count (appending t.before few) s fit in
-    record {
-      torn = t;
-      holds = x.0;
-      stands =
-          subst (λ b. FileContains old.kind b (with_link old.kind (model_after old.kind old.bytes m t.before) t.offset x.0))
-          (sym (ap (λ f. f.bytes) t.state)) x.1;
-    }
+    torn_as told e old new m f s t (appending t.before few)
 
 -- a call that may patch a link as its last change
 linked_leaves : {X Y : Type 0} (view : X → Y) (told : WriteOutcome Y) (r : Result X TiffError)

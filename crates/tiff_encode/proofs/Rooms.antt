@@ -94,7 +94,7 @@ module _ {S A : Type 0} (opened : S → OpenDirectory) (having : S → OpenDirec
   settled_stays (Ok x) h = tt
   settled_stays (Err e) h = h.1
 
-  pub settled_rest : (r : Result A TiffError) → Settled r → next ≡ having s (opened next)
+  settled_rest : (r : Result A TiffError) → Settled r → next ≡ having s (opened next)
   settled_rest (Ok x) (field, (q, n)) = n ∙ ap (having s) (sym (ap opened n ∙ given s _))
   settled_rest (Err e) (q, n) = n ∙ sym (own s) ∙ ap (having s) (sym (ap opened n))
 
@@ -112,7 +112,7 @@ module _ {S A : Type 0} (opened : S → OpenDirectory) (having : S → OpenDirec
         λ p. Ends (λ (f : Field). f) (entry_of v old) p old new in
         tag_fails (opened s) t v e old new (subst P q ends)
 
-    pub settled_leaves : (r : Result A TiffError) (m : Model)
+    settled_leaves : (r : Result A TiffError) (m : Model)
         → Leaves (entry_of v old) placed old new m → Settled r
         → Leaves (tag_of (opened s) t v old) r old new m
     settled_leaves (Ok x) m leaves (field, (q, n)) =
@@ -124,9 +124,38 @@ module _ {S A : Type 0} (opened : S → OpenDirectory) (having : S → OpenDirec
         let L : Result Field TiffError → Type 0 =
         λ p. Leaves (entry_of v old) p old new m in subst L q leaves
 
-  pub settled_unwritten : (r : Result A TiffError) (room : Bool) (old new : FileState)
+  settled_unwritten : (r : Result A TiffError) (room : Bool) (old new : FileState)
       → IsInRoom room old new placed → Settled r
       → OnErr r (StaysUnlessCut old new)
   settled_unwritten (Ok x) room old new in_room h = tt
   settled_unwritten (Err e) room old new in_room (q, n) =
       let P : Result Field TiffError → Type 0 = λ p. IsInRoom room old new p in subst P q in_room
+
+  -- what a call leaves that sets a field to the value
+  pub record SetsTag (v : Value) (r : Result A TiffError) (old new : FileState) : Type 0 where
+    pub stays : OnErr r (next ≡ s)
+    pub rest : next ≡ having s (opened next)
+    pub answer : Ends (λ (_ : A). opened next) (tag_of (opened s) t v old) r old new
+    pub unwritten : OnErr r (StaysUnlessCut old new)
+    pub leaves : (m : Model) → Leaves (entry_of v old) placed old new m
+        → Leaves (tag_of (opened s) t v old) r old new m
+
+  pub sets_tag : (v : Value) (r : Result A TiffError) (room : Room) (made : Bool) (roomed : S)
+      (old new : FileState)
+      → roomed ≡ having s (with_room (opened s) t room) → IsRoomFor t (opened s) room
+      → made ≡ is_made room → IsInRoom made old new placed
+      → Ends (λ (f : Field). f) (entry_of v old) placed old new
+      → ((s : S) → roomed ≡ having s (with_room (opened s) t room) → IsRoomFor t (opened s) room
+      → IfOk placed (λ _. is_made room ≡ true)
+      → IsSettled (λ field. having s (with_field (opened s) t field)) s placed r next)
+      → SetsTag v r old new
+  sets_tag v r room made roomed old new at is m in_room ends settles =
+      let settled : Settled r =
+      settles s at is (room_kept room made placed old new m in_room) in
+      record {
+        stays = settled_stays r settled;
+        rest = settled_rest r settled;
+        answer = settled_ends v old new ends r settled;
+        unwritten = settled_unwritten r made old new in_room settled;
+        leaves = λ n leaves. settled_leaves v old new ends r n leaves settled;
+      }

@@ -1,4 +1,5 @@
 -- What the chunks and the images of a file show.
+pub mod Alike
 pub mod Undone
 pub mod Data
 pub mod Packed

@@ -24,7 +24,7 @@ use Rattle.tiff_encode.specs.Calls.{placed_field, write_entry, write_entry_bytes
 use Rattle.tiff_encode.specs.Ends.{EndsAsDefined, CallFails, Ends}
 use Rattle.tiff_encode.specs.Tagging.{write_fields, StopsInPart, fields_of}
 use Rattle.tiff_value.specs.lemmas.File.Listing.{filled_whole}
-use Rattle.tiff_encode.proofs.Joining.{IsAdding, Adds, adding, answers_adding, tag_adds, bind_told, bind_ends_adding, bind_fails, bind_adding, bind_adds}
+use Rattle.tiff_encode.proofs.Joining.{IsAdding, Adds, adding, answers_adding, tag_adds, bind_told, bind_ends, bind_fails, bind_adding, bind_adds}
 
 -- ---- equal calls
 
@@ -107,7 +107,7 @@ pub fields_end : {X : Type 0} (view : X → OpenDirectory) (d next : OpenDirecto
 fields_end view d next xs ys r old mid new h e =
     let rest : OpenDirectory → WriteCall OpenDirectory = λ n. write_fields n ys in
     subst (λ told. Ends view told r old new) (sym (fields_joined d xs ys old))
-    (bind_ends_adding view (write_fields d xs) rest next r old mid new (fields_adding d xs old) h e)
+    (bind_ends view (write_fields d xs) rest next r old mid new (fields_adding d xs old) h e)
 
 pub fields_told : (d next : OpenDirectory) (xs ys : List (Tag × FieldData))
     (r : Result OpenDirectory TiffError)

@@ -39,6 +39,7 @@ use Rattle.tiff_encode.proofs.Image.FitsCalls.{adding_done}
 use Rattle.tiff_encode.proofs.Data.Chunks.{data_chunks, chunks_done, data_patches, same_directory}
 use Rattle.tiff_encode.proofs.Data.Leaves.{StillStands, appended_stands, data_stopped, data_torn, IsWritten, data_written, data_stands}
 use Rattle.tiff_encode.proofs.Data.Shows.{data_ended, data_shows}
+use Rattle.tiff_encode.proofs.Shown.Alike.{shown_alike}
 use Rattle.tiff_encode.proofs.Data.Begun.{new_adding, not_begun, new_is, Chains, behind_chains, image_chains, behind_linked, image_linked, image_placed}
 
 -- ---- the samples that a page shows
@@ -83,18 +84,9 @@ shown_whole show kind file offset i samples m h none s =
     let few : num_samples s.color ≤ all_samples i =
     few_shown i is_of s.page.offsets s.page.byte_counts s.color (ap color_of (sym s.is_image)
     ∙ s.is_color) in
-    record {
-      page = s.page;
-      is_page = s.is_page;
-      is_image = s.is_image;
-      color = s.color;
-      is_color = s.is_color;
-      whole = s.whole;
-      shows = λ x y sample xl yl sl.
-          s.shows x y sample xl yl sl
-          ∙ show i samples x y sample drawn none (omega (arith, xl, width))
-          (omega (arith, yl, height)) (omega (arith, sl, few));
-    }
+    shown_alike s s.is_image (λ x y sample xl yl sl.
+    show i samples x y sample drawn none (omega (arith, xl, width)) (omega (arith, yl, height))
+    (omega (arith, sl, few)))
 
 -- ---- the image after its beginning
 
@@ -266,59 +258,58 @@ module _ (parts_show : PartsShow) (color : ColorTypeRecord) (size width height :
         (no_chunks color size width height old i mid begun)
         (subst (λ kind. Shows kind new.bytes w.offsets.pointer (image_with i (parts_left i samples))) same_kind here)
 
+    -- the image when all chunks are written, and the file before its directory
+    abbrev last : OpenImage
+    last = (data_ended i samples mid new w).0
+
+    abbrev end : FileState
+    end = (data_chunks i samples w.stored mid mid).next
+
+    last_told : (finish_image last end).answer ≡ Ok w.offsets
+    last_told = ap (λ t. t.answer) (sym (data_ended i samples mid new w).1.1) ∙ w.told.answer
+
+    last_directory : last.directory ≡ i.directory
+    last_directory =
+        same_directory i samples w.stored mid last (data_ended i samples mid new w).1.0
+
     -- the link of the image's directory is free for a next directory
     image_next : IsLink old.kind (model_by mid first_model told) new.chain
     image_next =
-        let ended = data_ended i samples mid new w in
-        let last : OpenImage = ended.0 in
-        let end : FileState = (data_chunks i samples w.stored mid mid).next in
-        let told_last : (finish_image last end).answer ≡ Ok w.offsets =
-        ap (λ t. t.answer) (sym ended.1.1) ∙ w.told.answer in
         let chained : last.directory.chained ≡ true =
-        ap (λ d. d.chained) (same_directory i samples w.stored mid last ended.1.0)
+        ap (λ d. d.chained) last_directory
         ∙ chained_is color size width height old i mid begun in
         let done = chunks_done i (parts_left i samples) w.stored mid in
         let n : Model = model_by mid first_model (data_chunks i samples w.stored mid mid) in
         let all : Chains mid first_model told =
-        subst (λ t. Chains mid first_model t) (sym ended.1.1)
+        subst (λ t. Chains mid first_model t) (sym (data_ended i samples mid new w).1.1)
         (behind_chains (data_chunks i samples w.stored mid mid) (finish_image last end) mid first_model done
-        (image_chains last end n w.offsets told_last chained)) in
+        (image_chains last end n w.offsets last_told chained)) in
         subst (λ q. IsLink old.kind (model_by mid first_model told) q) (sym (ap (λ s. s.chain) w.told.state))
         (subst (λ kind. IsLink kind (model_by mid first_model told) told.next.chain) same_kind all)
 
     -- the last link of the chain points to the image
     image_linked_to : (model_by mid first_model told).links old.chain ≡ w.offsets.pointer
     image_linked_to =
-        let ended = data_ended i samples mid new w in
-        let last : OpenImage = ended.0 in
-        let end : FileState = (data_chunks i samples w.stored mid mid).next in
-        let told_last : (finish_image last end).answer ≡ Ok w.offsets =
-        ap (λ t. t.answer) (sym ended.1.1) ∙ w.told.answer in
         let parent : last.directory.parent ≡ Some old.chain =
-        ap (λ d. d.parent) (same_directory i samples w.stored mid last ended.1.0)
+        ap (λ d. d.parent) last_directory
         ∙ parent_is color size width height old i mid begun in
         let done = chunks_done i (parts_left i samples) w.stored mid in
         let n : Model = model_by mid first_model (data_chunks i samples w.stored mid mid) in
         subst (λ t. (model_by mid first_model t).links old.chain
-        ≡ w.offsets.pointer) (sym ended.1.1)
+        ≡ w.offsets.pointer) (sym (data_ended i samples mid new w).1.1)
         (behind_linked (data_chunks i samples w.stored mid mid) (finish_image last end) mid first_model old.chain w.offsets.pointer done
-        (image_linked last end n w.offsets old.chain told_last parent))
+        (image_linked last end n w.offsets old.chain last_told parent))
 
     -- the image begins behind the earlier bytes of the file
     image_behind : end_of old ≤ w.offsets.pointer
     image_behind =
         let begins : WriteOutcome OpenImage = new_image color size width height old in
-        let ended = data_ended i samples mid new w in
-        let last : OpenImage = ended.0 in
-        let end : FileState = (data_chunks i samples w.stored mid mid).next in
-        let told_last : (finish_image last end).answer ≡ Ok w.offsets =
-        ap (λ t. t.answer) (sym ended.1.1) ∙ w.told.answer in
         let first =
         done_longer begins old (adding_done begins old (new_adding color size width height old)) in
         let middle : end_of mid ≡ end_of begins.next = ap (λ s. end_of s) begun.state in
         let chunks =
         done_longer (data_chunks i samples w.stored mid mid) mid (chunks_done i (parts_left i samples) w.stored mid) in
-        let tags = image_placed last end w.offsets told_last in
+        let tags = image_placed last end w.offsets last_told in
         omega (arith, first, middle, chunks, tags)
 
     image_written : LeavesImage color size width height samples old new m

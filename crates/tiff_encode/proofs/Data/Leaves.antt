@@ -21,7 +21,7 @@ use Rattle.tiff_encode.specs.Open.{model_by}
 use Rattle.tiff_encode.specs.ImageData.{StopsWithin, WritesDataBy, WritesImageData, IsShortFile}
 use Rattle.tiff_base.specs.lemmas.Slices.{length_put, length-le}
 use Rattle.tiff_value.specs.lemmas.File.WriteOps.{bytes_joined, ops_append, ops_stand, ops_torn}
-use Rattle.tiff_encode.proofs.Leaving.{ok_err, count_last, appending, begun_leaves}
+use Rattle.tiff_encode.proofs.Leaving.{ok_err, count_last, appending, begun_leaves, torn_as}
 use Rattle.tiff_encode.proofs.Joining.{ends_torn}
 use Rattle.tiff_encode.proofs.Image.FitsCalls.{IsDone, Fits}
 use Rattle.tiff_encode.proofs.Data.Calls.{AreAt, Patches, last_at}
@@ -101,17 +101,7 @@ module _ {A : Type 0} (parent : Option ℕ) (told : WriteOutcome A) (e : TiffErr
       absurd (ends_torn t.before t.offset t.target (subst (λ ds. AreAppending ds) t.last (p.refused g h)))
 
   pub patched_torn : LeavesTorn told e old new m
-  patched_torn =
-      let fit : OpsFit old.kind old.bytes m (t.before ++ Linked t.offset t.target ∷ []) =
-      subst (λ ds. OpsFit old.kind old.bytes m ds) t.last (torn_fits told.answer refl) in
-      let x = ops_torn old.kind old.bytes m t.before t.offset t.target t.count torn_before s fit in
-      record {
-        torn = t;
-        holds = x.0;
-        stands =
-            subst (λ b. FileContains old.kind b (with_link old.kind (model_after old.kind old.bytes m t.before) t.offset x.0))
-            (sym (ap (λ f. f.bytes) t.state)) x.1;
-      }
+  patched_torn = torn_as told e old new m (torn_fits told.answer refl) s t torn_before
 
 -- after a call succeeds, the model with its changes describes the file
 pub patched_stands : {A : Type 0} (parent : Option ℕ) (told : WriteOutcome A) (x : A)

@@ -1,5 +1,5 @@
 -- After all chunks that are left are written, the file shows the image at its end.
-use Rattle.std.proofs.Common.{◌≡◌, ℕ, ◌^◌, ◌<◌, inl, inr, false, List, ◌++◌, length, Some, None, Result, Ok, Err, ap, sym, ◌∙◌, subst, arith, le-ltb}
+use Rattle.std.proofs.Common.{◌≡◌, ℕ, ◌^◌, ◌<◌, inl, inr, false, List, ◌++◌, length, Some, None, Result, Ok, Err, refl, ap, sym, ◌∙◌, subst, arith, le-ltb}
 use Rattle.tiff_base.specs.declared.error.TiffError.{TiffError}
 use Rattle.tiff_base.specs.declared.tags.FileKind.{FileKind}
 use Rattle.tiff_base.specs.Field.{AreEntries}
@@ -14,6 +14,7 @@ use Rattle.tiff_encode.specs.Held.{image_with}
 use Rattle.tiff_encode.specs.Open.{RecordsImage, model_by}
 use Rattle.tiff_encode.specs.ImageData.{AreNumbers, IsShortFile, WritesImageData, LeavesWhole, LeavesData}
 use Rattle.tiff_encode.proofs.PageTold.Page.{page_told}
+use Rattle.tiff_encode.proofs.Shown.Alike.{shown_alike}
 use Rattle.tiff_encode.proofs.Shown.Images.{images_show_by}
 use Rattle.tiff_encode.proofs.Open.Ends.{ends_shown_by}
 use Rattle.tiff_encode.proofs.Image.FitsCalls.{done_longer}
@@ -29,15 +30,8 @@ pub shown_as : (kind : FileKind) (file : List ℕ) (offset : ℕ) (i : OpenImage
     → Shows kind file offset (image_with (rechunked i chunks) samples)
     → Shows kind file offset (image_with i samples)
 unfolding sample_in
-shown_as kind file offset i chunks samples s = record {
-  page = s.page;
-  is_page = s.is_page;
-  is_image = s.is_image;
-  color = s.color;
-  is_color = s.is_color;
-  whole = s.whole;
-  shows = s.shows;
-}
+shown_as kind file offset i chunks samples s =
+    shown_alike s s.is_image (λ x y sample xl yl sl. refl)
 
 module _ (i : OpenImage) (samples : List ℕ) (old new : FileState) (w : IsWritten i samples old new) where
   -- the outcome of `write_data`, its chunks, and the file after the chunks

@@ -21,7 +21,7 @@ use Rattle.tiff_encode.specs.Parts.{next_part, WritesPart}
 use Rattle.tiff_encode.specs.FileWrites.{file_with_bytes}
 use Rattle.tiff_encode.specs.Stored.{AreStored, unpacked_chunk, IsChunkStored}
 use Rattle.tiff_encode.proofs.Calling.{uncaused}
-use Rattle.tiff_encode.proofs.Joining.{IsAdding, appended_len, begun_both, bind_told, bind_ends_adding}
+use Rattle.tiff_encode.proofs.Joining.{IsAdding, appended_len, begun_both, bind_told, bind_ends}
 use Rattle.tiff_encode.proofs.Leaving.{ok_err}
 use Rattle.tiff_encode.proofs.Data.Chunks.{chunks_adding}
 use Rattle.tiff_encode.proofs.Tagging.{going_alike, going_further}
@@ -359,7 +359,7 @@ module _ (i : OpenImage) (samples : List ℕ) (n : ℕ) (counted : n ≡ length 
         let chunks : WriteCall OpenImage = write_chunks i (parts_left i samples) all.0 in
         uncaused (λ d. d) (write_image_data_cause old i (length samples)) (chunks
         >>= (λ last. finish_image last)) r old new no_cause
-        (bind_ends_adding (λ d. d) chunks (λ last. finish_image last) next r old mid new (chunks_adding i (parts_left i samples) all.0 old) all.1.1.1 f)
+        (bind_ends (λ d. d) chunks (λ last. finish_image last) next r old mid new (chunks_adding i (parts_left i samples) all.0 old) all.1.1.1 f)
 
     pub data_done : (offsets : Offsets) → EndsAsDefined (finish_image next mid) (Ok offsets) new
         → (let r : Result (Unit {0}) TiffError = Ok tt in WritesImageData i samples r old new)

@@ -55,6 +55,18 @@ StoresIfFound call cause i samples r old new t =
     × (jobs.StoresBy call cause i.image samples r old new t.image
     ⊎ jobs.IsUnfound r i.image old new t.image)
 
+-- a held image stays held with the chunk that a call stores
+abbrev pub KeepsChunks : (OpenImage → ℕ → List ℕ → WriteCall OpenImage) → Type 0
+KeepsChunks call =
+    (file : FileState) (m : Model) (i next : OpenImage) (samples : List (List ℕ))
+    (numbers stored : List ℕ)
+    → RecordsImage file.kind m i samples → ((n : ℕ) → get_or numbers n 0 < 256 ^ i.size)
+    → length numbers < 2 ^ 64 - 1
+    → IsChunkStored i stored numbers → end_of file < 2 ^ 64 → length stored < 2 ^ 64
+    → (call i (length numbers) stored file).answer ≡ Ok next
+    → RecordsImage file.kind (model_by file m (call i (length numbers) stored file)) next (samples
+    ++ numbers ∷ [])
+
 -- Properties of a call that writes a chunk: it only appends, the directory of the image keeps its
 -- parent, the file
 -- contains the bytes, and a held image stays held with the chunk.
@@ -67,40 +79,33 @@ pub record IsStoring (call : OpenImage → ℕ → List ℕ → WriteCall OpenIm
   pub within : (i next : OpenImage) (n : ℕ) (stored : List ℕ) (file : FileState)
       → (call i n stored file).answer ≡ Ok next
       → length stored ≤ end_of (call i n stored file).next
-  pub keeps : (file : FileState) (m : Model) (i next : OpenImage) (samples : List (List ℕ))
-      (numbers stored : List ℕ)
-      → RecordsImage file.kind m i samples → ((n : ℕ) → get_or numbers n 0 < 256 ^ i.size)
-      → length numbers < 2 ^ 64 - 1
-      → IsChunkStored i stored numbers → end_of file < 2 ^ 64 → length stored < 2 ^ 64
-      → (call i (length numbers) stored file).answer ≡ Ok next
-      → RecordsImage file.kind (model_by file m (call i (length numbers) stored file)) next (samples
-      ++ numbers ∷ [])
+  pub keeps : KeepsChunks call
+
+-- a call that stores the bytes as a chunk, unless a check refuses them
+stores_by : (cause : FileState → OpenImage → ℕ → ℕ → Option TiffError)
+    → let call : OpenImage → ℕ → List ℕ → WriteCall OpenImage =
+    λ i n stored file. by_cause (cause file i n (length stored)) (appends_chunk i stored) file in
+    KeepsChunks call → IsStoring call
+stores_by cause keeps = record {
+  adds = λ i n stored file. adding _ file (stored_adds (cause file i n (length stored)) i stored file);
+  parent =
+      λ i next n stored file a. chunk_parent (cause file i n (length stored)) i next stored file a;
+  within =
+      λ i next n stored file a. chunk_within (cause file i n (length stored)) i next stored file a;
+  keeps = keeps;
+}
 
 pub strips_store : IsStoring write_strip
 unfolding write_strip
-strips_store = record {
-  adds =
-      λ i n stored file. adding _ file (stored_adds (write_strip_cause file i n (length stored)) i stored file);
-  parent =
-      λ i next n stored file a. chunk_parent (write_strip_cause file i n (length stored)) i next stored file a;
-  within =
-      λ i next n stored file a. chunk_within (write_strip_cause file i n (length stored)) i next stored file a;
-  keeps = λ file m i next samples numbers stored h s l is near short a.
-      (chunks_keep_open file m i next samples numbers stored h s l is near short).1 a;
-}
+strips_store =
+    stores_by write_strip_cause (λ file m i next samples numbers stored h s l is near short a.
+    (chunks_keep_open file m i next samples numbers stored h s l is near short).1 a)
 
 pub chunks_store : IsStoring write_chunk
 unfolding write_chunk
-chunks_store = record {
-  adds =
-      λ i n stored file. adding _ file (stored_adds (write_chunk_cause file i n (length stored)) i stored file);
-  parent =
-      λ i next n stored file a. chunk_parent (write_chunk_cause file i n (length stored)) i next stored file a;
-  within =
-      λ i next n stored file a. chunk_within (write_chunk_cause file i n (length stored)) i next stored file a;
-  keeps = λ file m i next samples numbers stored h s l is near short a.
-      (chunks_keep_open file m i next samples numbers stored h s l is near short).0 a;
-}
+chunks_store =
+    stores_by write_chunk_cause (λ file m i next samples numbers stored h s l is near short a.
+    (chunks_keep_open file m i next samples numbers stored h s l is near short).0 a)
 
 module _ (call : OpenImage → ℕ → List ℕ → WriteCall OpenImage) (c : IsStoring call)
     (i j : OpenImage) (numbers : List ℕ) (new : FileState)

@@ -9,9 +9,11 @@ use Rattle.tiff_base.specs.Field.{Field}
 use Rattle.tiff_value.specs.Data.{Scalars}
 use Rattle.tiff_page.specs.Checks.{is_page_tag}
 use Rattle.tiff_value.specs.Model.{Model, Grows}
-use Rattle.tiff_encode.specs.Machine.{OpenImage}
+use Rattle.tiff_encode.specs.Machine.{OpenDirectory, OpenImage}
+use Rattle.tiff_encode.specs.Calls.{with_directory_of}
 use Rattle.tiff_encode.specs.Held.{Given, HasValues, HoldsAt, HoldsValues}
 use Rattle.tiff_encode.specs.Open.{HoldsChunks, GrownOpen}
+use Rattle.tiff_encode.specs.Stored.{unpacked_chunk}
 use Rattle.tiff_encode.proofs.Given.{IsLocal}
 
 -- ---- more is written
@@ -30,11 +32,13 @@ pub holds_grown : (m n : Model) (fields : FinMap nat_cmp Field) (given : Given) 
     → HoldsValues m fields given → HoldsValues n fields given
 holds_grown m n fields given g h t p = at_grown m n (get fields t) (given t) g (h t p)
 
--- the chunks stay held in a model that grows
-pub chunks_grown : (kind : FileKind) (m n : Model) (i : OpenImage) (samples : List (List ℕ))
+-- the chunks stay held in a model that grows, also for an image with another directory
+pub chunks_moved : (kind : FileKind) (m n : Model) (i : OpenImage) (d : OpenDirectory)
+    (samples : List (List ℕ))
     → Grows m n
-    → HoldsChunks kind m i samples → HoldsChunks kind n i samples
-chunks_grown kind m n i samples g h = record {
+    → HoldsChunks kind m i samples → HoldsChunks kind n (with_directory_of i d) samples
+unfolding unpacked_chunk
+chunks_moved kind m n i d samples g h = record {
   as_many = h.as_many;
   within = h.within;
   few = h.few;
@@ -43,6 +47,11 @@ chunks_grown kind m n i samples g h = record {
   regions = λ k b. let r = h.regions k b in (r.0, (g.regions _ r.1.0, r.1.1));
   fit = h.fit;
 }
+
+pub chunks_grown : (kind : FileKind) (m n : Model) (i : OpenImage) (samples : List (List ℕ))
+    → Grows m n
+    → HoldsChunks kind m i samples → HoldsChunks kind n i samples
+chunks_grown kind m n i samples g h = chunks_moved kind m n i i.directory samples g h
 
 pub grown_open : GrownOpen
 grown_open kind m n i samples h g = record {

@@ -19,15 +19,16 @@ use Rattle.tiff_encode.specs.Machine.{FileState, OpenDirectory, ChunkLayout, Chu
 use Rattle.tiff_encode.specs.Drawn.{IsForm}
 use Rattle.tiff_encode.specs.Causes.{resolution_cause, one_resolution_cause, resolution_unit_cause}
 use Rattle.tiff_encode.specs.Calls.{write_tag, write_tag_buf, write_tags, extend_from, with_directory_of, resolution_tags, resolution, x_resolution, y_resolution, resolution_unit}
-use Rattle.tiff_encode.specs.Stored.{unpacked_chunk}
+use Rattle.tiff_encode.specs.GivenValues as given_values
 use Rattle.tiff_encode.specs.Held.{Given, HoldsValues, ExtraGiven, value_in, AreGiven, EachGiven, place_tags}
 use Rattle.tiff_encode.specs.Open.{open_tags, TellsOpen, IsOpen, HoldsChunks, RecordsImage, model_by, KeepsOpen, TagsKeepOpen, FieldsKeepOpen, ResolutionsKeepOpen}
 use Rattle.tiff_base.specs.lemmas.Slices.{ok_inj}
 use Rattle.tiff_value.specs.lemmas.File.WriteOps.{ops_grow}
 use Rattle.tiff_encode.proofs.Given.{IsLocal, given_changed}
-use Rattle.tiff_encode.proofs.Open.Held.{chunks_grown, other_held}
+use Rattle.tiff_encode.proofs.Open.Held.{chunks_grown, chunks_moved, other_held}
+use Rattle.tiff_encode.proofs.Moving.{grows_here}
 use Rattle.tiff_encode.proofs.Image.Table.{Row, written, tagged}
-use Rattle.tiff_encode.proofs.Open.Tags.{both_held, caused_held, tags_adding, other_tag_held, other_buf_held, others_held}
+use Rattle.tiff_encode.proofs.Open.Tags.{both_held, caused_held, tags_adding, other_tag_held, others_held}
 
 -- ---- one part
 
@@ -90,21 +91,12 @@ pub directory_kept : (kind : FileKind) (m n : Model) (i : OpenImage) (d : OpenDi
     (h : RecordsImage kind m i samples) → HoldsValues n d.fields h.given
     → HoldsChunks kind n i samples
     → RecordsImage kind n (with_directory_of i d) samples
-unfolding unpacked_chunk
 directory_kept kind m n i d samples h o c = record {
   given = h.given;
   holds = o;
   tells = tells_kept i d i.chunks h.given h.tells;
   open_so = open_kept i d i.chunks h.open_so;
-  chunks = record {
-    as_many = c.as_many;
-    within = c.within;
-    few = c.few;
-    lengths = c.lengths;
-    small = c.small;
-    regions = c.regions;
-    fit = c.fit;
-  };
+  chunks = chunks_moved kind n n i d samples (grows_here n) c;
 }
 
 -- ---- tags that a page isn't read by
@@ -114,12 +106,12 @@ tags_keep_open file m i samples t d h q = (
   λ value a.
       let call : WriteCall OpenDirectory = write_tag i.directory t value in
       let n : Model = model_by file m (call file) in
-      directory_kept file.kind m n i d samples h (other_tag_held i.directory t value file m h.given d q h.holds a)
+      directory_kept file.kind m n i d samples h (other_tag_held i.directory t (given_values.Given value) file m h.given d q h.holds a)
       (chunks_grown file.kind m n i samples (ops_grow file.kind file.bytes m (call file).ops) h.chunks),
   λ b a.
       let call : WriteCall OpenDirectory = write_tag_buf i.directory t b in
       let n : Model = model_by file m (call file) in
-      directory_kept file.kind m n i d samples h (other_buf_held i.directory t b file m h.given d q h.holds a)
+      directory_kept file.kind m n i d samples h (other_tag_held i.directory t (given_values.Lent b) file m h.given d q h.holds a)
       (chunks_grown file.kind m n i samples (ops_grow file.kind file.bytes m (call file).ops) h.chunks),
 )
 

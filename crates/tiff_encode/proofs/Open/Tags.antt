@@ -10,21 +10,23 @@ use Rattle.tiff_base.specs.declared.tags.Tag.{Tag}
 use Rattle.tiff_base.specs.Field.{Field}
 use Rattle.tiff_base.specs.Number.{le}
 use Rattle.tiff_base.specs.Tags.{tag_number}
-use Rattle.tiff_value.specs.Buffer.{BufferRecord}
 use Rattle.tiff_value.specs.Data.{FieldData, Scalars, data_of}
 use Rattle.tiff_page.specs.Checks.{is_page_tag}
 use Rattle.tiff_value.specs.Model.{In, SuppliedField, Model}
 use Rattle.tiff_value.specs.WriteOps.{WriteOp, Appended, Supplied, bytes_after, model_after}
 use Rattle.tiff_value.specs.Fields.{is_long, filled_field, field_at}
-use Rattle.tiff_encode.specs.Machine.{FileState, OpenDirectory, WriteCall, gives, by_cause, and_then, ◌>>=◌}
+use Rattle.tiff_encode.specs.Machine.{FileState, OpenDirectory, WriteOutcome, WriteCall, gives, by_cause, and_then, ◌>>=◌}
 use Rattle.tiff_encode.specs.Causes.{end_of, write_tag_cause}
-use Rattle.tiff_encode.specs.Calls.{with_field, placed_field, write_entry, write_entry_buf, write_tag, write_tag_buf, write_tags}
+use Rattle.tiff_encode.specs.Calls.{with_field, placed_field, write_entry, write_tag, write_tags}
+use Rattle.tiff_encode.specs.GivenValues as given_values
+use Rattle.tiff_encode.specs.GivenValues.{Value, entry_of, tag_of}
 use Rattle.tiff_encode.specs.Held.{Given, HasValues, HoldsValues}
 use Rattle.tiff_encode.specs.Open.{model_by}
 use Rattle.tiff_base.specs.lemmas.Slices.{ok_inj, length-le}
 use Rattle.tiff_value.specs.lemmas.File.WriteOps.{model_joined, ops_append, ops_grow}
-use Rattle.tiff_encode.proofs.Joining.{IsAdding, Adds, adding, entry_adds, entry_buf_adds, tag_adds, answers_adding, bind_adding}
+use Rattle.tiff_encode.proofs.Joining.{IsAdding, Adds, adding, entry_adds, tag_adds, answers_adding, bind_adding}
 use Rattle.tiff_encode.proofs.Given.{IsLocal}
+use Rattle.tiff_encode.proofs.Guarding.{tag_called, value_adds}
 use Rattle.tiff_encode.proofs.Open.Held.{holds_grown, set, set_local, set_held, other_held}
 
 -- ---- calls that succeed
@@ -193,23 +195,15 @@ other_by call d t file m given next a q o h =
     subst (λ x. HoldsValues n x.fields given) (ok_inj (with_field d t field) next b)
     (other_held n d.fields given (tag_number t) field q grown))
 
-pub other_tag_held : (d : OpenDirectory) (t : Tag) (value : Result FieldData TiffError)
-    (file : FileState) (m : Model) (given : Given)
-    (next : OpenDirectory) → is_page_tag (tag_number t) ≡ false → HoldsValues m d.fields given
-    → (write_tag d t value file).answer ≡ Ok next
-    → HoldsValues (model_by file m (write_tag d t value file)) next.fields given
-unfolding write_tag
-other_tag_held d t value file m given next q o h =
-    other_by (write_entry value) d t file m given next (entry_adds value file) q o h
-
-pub other_buf_held : (d : OpenDirectory) (t : Tag) (b : BufferRecord) (file : FileState) (m : Model)
-    (given : Given)
-    (next : OpenDirectory) → is_page_tag (tag_number t) ≡ false → HoldsValues m d.fields given
-    → (write_tag_buf d t b file).answer ≡ Ok next
-    → HoldsValues (model_by file m (write_tag_buf d t b file)) next.fields given
-unfolding write_tag_buf
-other_buf_held d t b file m given next q o h =
-    other_by (write_entry_buf b) d t file m given next (entry_buf_adds b file) q o h
+pub other_tag_held : (d : OpenDirectory) (t : Tag) (v : Value) (file : FileState) (m : Model)
+    (given : Given) (next : OpenDirectory)
+    → is_page_tag (tag_number t) ≡ false → HoldsValues m d.fields given
+    → (tag_of d t v file).answer ≡ Ok next
+    → HoldsValues (model_by file m (tag_of d t v file)) next.fields given
+other_tag_held d t v file m given next q o =
+    let P : WriteOutcome OpenDirectory → Type 0 = λ told. told.answer ≡ Ok next
+    → HoldsValues (model_by file m told) next.fields given in
+    subst P (sym (tag_called d t v file)) (other_by (entry_of v) d t file m given next (value_adds v file) q o)
 
 -- several tags that a page isn't read by
 pub others_held : (d : OpenDirectory) (values : List (Tag × Scalars)) (file : FileState) (m : Model)
@@ -227,4 +221,4 @@ others_held d (v ∷ values) file m given next q o h =
     (adding (call file) file (tag_adds d v.0 (Ok (data_of v.1)) file)) h
     (λ x a b.
     others_held x values (call file).next (model_by file m (call file)) given next each.1
-    (other_tag_held d v.0 (Ok (data_of v.1)) file m given x each.0 o a) b)
+    (other_tag_held d v.0 (given_values.Given (Ok (data_of v.1))) file m given x each.0 o a) b)

@@ -17,6 +17,7 @@ use Rattle.tiff_base.specs.declared.tags.PlanarConfiguration.TheVariants.{Chunky
 use Rattle.tiff_base.specs.declared.tags.Predictor.{Predictor}
 use Rattle.tiff_base.specs.declared.tags.Predictor.TheVariants as predictor
 use Rattle.tiff_base.specs.declared.tags.SampleFormat.TheVariants.{Void}
+use Rattle.tiff_base.specs.declared.tags.Tag.{Tag}
 use Rattle.tiff_base.specs.declared.tags.Tag.TheVariants as tag
 use Rattle.tiff_base.specs.Tags.{method_number, interpretation_number, predictor_number, format_number, extra_number}
 use Rattle.tiff_base.specs.Tags as kinds
@@ -44,26 +45,26 @@ offsets_of i = map (λ chunk. chunk.offset) i.chunks
 abbrev pub lengths_of : OpenImage → List ℕ
 lengths_of i = map (λ chunk. chunk.stored) i.chunks
 
+-- the look-up finds the places of the chunks by the tags of one chunk type, and none by those of
+-- the other
+pub record FindsPlaces (l : TagLookup) (i : OpenImage) (offset count other_offset other_count : Tag) : Type 0 where
+  pub offsets : find into_u64_vec l offset ≡ Ok (Some (offsets_of i))
+  pub byte_counts : find into_u64_vec l count ≡ Ok (Some (lengths_of i))
+  pub has_offsets : l.has offset ≡ true
+  pub has_counts : l.has count ≡ true
+  pub no_offsets : l.has other_offset ≡ false
+  pub no_counts : l.has other_count ≡ false
+
 -- the look-up finds strips and no tiles
 pub record FindsStrips (l : TagLookup) (i : OpenImage) : Type 0 where
   pub rows : find into_u32 l tag.RowsPerStrip ≡ Ok (Some i.form.chunk_height)
-  pub offsets : find into_u64_vec l tag.StripOffsets ≡ Ok (Some (offsets_of i))
-  pub byte_counts : find into_u64_vec l tag.StripByteCounts ≡ Ok (Some (lengths_of i))
-  pub has_offsets : l.has tag.StripOffsets ≡ true
-  pub has_counts : l.has tag.StripByteCounts ≡ true
-  pub no_offsets : l.has tag.TileOffsets ≡ false
-  pub no_counts : l.has tag.TileByteCounts ≡ false
+  pub places : FindsPlaces l i tag.StripOffsets tag.StripByteCounts tag.TileOffsets tag.TileByteCounts
 
 -- the look-up finds tiles and no strips
 pub record FindsTiles (l : TagLookup) (i : OpenImage) : Type 0 where
   pub wide : find into_u32 l tag.TileWidth ≡ Ok (Some i.form.chunk_width)
   pub high : find into_u32 l tag.TileLength ≡ Ok (Some i.form.chunk_height)
-  pub offsets : find into_u64_vec l tag.TileOffsets ≡ Ok (Some (offsets_of i))
-  pub byte_counts : find into_u64_vec l tag.TileByteCounts ≡ Ok (Some (lengths_of i))
-  pub has_offsets : l.has tag.TileOffsets ≡ true
-  pub has_counts : l.has tag.TileByteCounts ≡ true
-  pub no_offsets : l.has tag.StripOffsets ≡ false
-  pub no_counts : l.has tag.StripByteCounts ≡ false
+  pub places : FindsPlaces l i tag.TileOffsets tag.TileByteCounts tag.StripOffsets tag.StripByteCounts
 
 abbrev pub FindsChunks : ChunkType → TagLookup → OpenImage → Type 0
 FindsChunks Strip l i = FindsStrips l i
@@ -173,8 +174,10 @@ some_is n h = ne_eqb n 0 (λ e. omega (arith, e, h))
 chunk_type_found : (l : TagLookup) (i : OpenImage) (c : ChunkType) → FindsChunks c l i
     → chunk_type_in l ≡ Ok c
 unfolding chunk_type_in
-chunk_type_found l i Strip t = rw (t.has_offsets, t.has_counts, t.no_offsets, t.no_counts) refl
-chunk_type_found l i Tile t = rw (t.has_offsets, t.has_counts, t.no_offsets, t.no_counts) refl
+chunk_type_found l i Strip t =
+    let p = t.places in rw (p.has_offsets, p.has_counts, p.no_offsets, p.no_counts) refl
+chunk_type_found l i Tile t =
+    let p = t.places in rw (p.has_offsets, p.has_counts, p.no_offsets, p.no_counts) refl
 
 module _ (kind : FileKind) (l : TagLookup) (i : OpenImage) (t : FindsPage l i) (w : IsWholeImage kind i) where
   -- the samples of the color are alike
@@ -285,10 +288,10 @@ module _ (kind : FileKind) (l : TagLookup) (i : OpenImage) (t : FindsPage l i) (
       → chunks_in l c i.pixels i.height planes ≡ Ok (the_chunks c)
   unfolding strips_in tiles_in look.require
   chunks_found Strip f e =
-      rw (f.offsets, f.byte_counts, f.rows, some_is i.form.chunk_height w.form.high.0) (counted_is Strip e)
+      rw (f.places.offsets, f.places.byte_counts, f.rows, some_is i.form.chunk_height w.form.high.0) (counted_is Strip e)
   chunks_found Tile f e =
       rw (f.wide, f.high, some_is i.form.chunk_width w.form.wide.0, some_is i.form.chunk_height w.form.high.0)
-      (rw (f.offsets, f.byte_counts) (counted_is Tile e))
+      (rw (f.places.offsets, f.places.byte_counts) (counted_is Tile e))
 
   -- the check of the chunks returns the chunks
   pub chunks_are : chunks_in l i.form.chunk_type i.pixels i.height planes

@@ -50,7 +50,7 @@ use Rattle.tiff_encode.proofs.PageTold.Tags.{some_found, none_found, list_back, 
 use Rattle.tiff_encode.proofs.PageTold.Values.{AllBelow, joint, are_shorts}
 use Rattle.tiff_encode.proofs.PageTold.Colors.{AreAlike, bits_repeated, formats_repeated, same_few, image_alike, image_samples}
 use Rattle.tiff_encode.proofs.PageTold.Checks as check
-use Rattle.tiff_encode.proofs.PageTold.Checks.{offsets_of, lengths_of, FindsChunks, planar_found, chroma_found, FindsPage}
+use Rattle.tiff_encode.proofs.PageTold.Checks.{offsets_of, lengths_of, FindsPlaces, FindsChunks, planar_found, chroma_found, FindsPage}
 
 -- ---- the numbers of enums
 
@@ -235,46 +235,44 @@ module _ (kind : FileKind) (file : List ℕ) (m : Model) (fields : FinMap nat_cm
         offsets_found kind file m fields given s h q (map g i.chunks) p e
         (each_below g (256 ^ offset_len kind) i.chunks (some_offsets kind) b) (omega (arith, n, c, few))
 
+    -- the look-up finds the places of the chunks by the tags of one chunk type alone
+    places_are : (offset count other_offset other_count : Tag)
+        → is_page_tag (tag_number offset) ≡ true → is_page_tag (tag_number count) ≡ true
+        → is_page_tag (tag_number other_offset) ≡ true → is_page_tag (tag_number other_count) ≡ true
+        → given (tag_number offset) ≡ Some (offset_values kind (offsets_of i))
+        → given (tag_number count) ≡ Some (offset_values kind (lengths_of i))
+        → given (tag_number other_offset) ≡ None → given (tag_number other_count) ≡ None
+        → FindsPlaces l i offset count other_offset other_count
+    places_are offset count other_offset other_count po pc px py o c x y =
+        let at = chunk_numbers (λ chunk. chunk.offset) (λ c j. (w.fit c j).0) offset po o in
+        let many = chunk_numbers (λ chunk. chunk.stored) (λ c j. (w.fit c j).1) count pc c in
+        record {
+          offsets = at.0;
+          byte_counts = many.0;
+          has_offsets = at.1;
+          has_counts = many.1;
+          no_offsets = (nothing_found kind file m fields given s h other_offset px x).1;
+          no_counts = (nothing_found kind file m fields given s h other_count py y).1;
+        }
+
     -- the look-up finds the chunks
     chunks_is : (c : ChunkType)
         → EachGiven (places_in c i.form.chunk_width i.form.chunk_height (Some (offset_values kind (offsets_of i))) (Some (offset_values kind (lengths_of i)))) given
         → FindsChunks c l i
-    chunks_is Strip u =
-        let o =
-        chunk_numbers (λ chunk. chunk.offset) (λ c j. (w.fit c j).0) tag.StripOffsets refl u.1.0 in
-        let b =
-        chunk_numbers (λ chunk. chunk.stored) (λ c j. (w.fit c j).1) tag.StripByteCounts refl u.1.1.0 in
-        record {
-          rows =
-              long_found kind file m fields given s h tag.RowsPerStrip i.form.chunk_height refl u.0 w.form.high.1;
-          offsets = o.0;
-          byte_counts = b.0;
-          has_offsets = o.1;
-          has_counts = b.1;
-          no_offsets =
-              (nothing_found kind file m fields given s h tag.TileOffsets refl u.1.1.1.0).1;
-          no_counts =
-              (nothing_found kind file m fields given s h tag.TileByteCounts refl u.1.1.1.1.0).1;
-        }
-    chunks_is Tile u =
-        let o =
-        chunk_numbers (λ chunk. chunk.offset) (λ c j. (w.fit c j).0) tag.TileOffsets refl u.1.1.0 in
-        let b =
-        chunk_numbers (λ chunk. chunk.stored) (λ c j. (w.fit c j).1) tag.TileByteCounts refl u.1.1.1.0 in
-        record {
-          wide =
-              long_found kind file m fields given s h tag.TileWidth i.form.chunk_width refl u.0 w.form.wide.1;
-          high =
-              long_found kind file m fields given s h tag.TileLength i.form.chunk_height refl u.1.0 w.form.high.1;
-          offsets = o.0;
-          byte_counts = b.0;
-          has_offsets = o.1;
-          has_counts = b.1;
-          no_offsets =
-              (nothing_found kind file m fields given s h tag.StripOffsets refl u.1.1.1.1.0).1;
-          no_counts =
-              (nothing_found kind file m fields given s h tag.StripByteCounts refl u.1.1.1.1.1.0).1;
-        }
+    chunks_is Strip u = record {
+      rows =
+          long_found kind file m fields given s h tag.RowsPerStrip i.form.chunk_height refl u.0 w.form.high.1;
+      places = places_are tag.StripOffsets tag.StripByteCounts tag.TileOffsets tag.TileByteCounts refl refl refl refl
+          u.1.0 u.1.1.0 u.1.1.1.0 u.1.1.1.1.0;
+    }
+    chunks_is Tile u = record {
+      wide =
+          long_found kind file m fields given s h tag.TileWidth i.form.chunk_width refl u.0 w.form.wide.1;
+      high =
+          long_found kind file m fields given s h tag.TileLength i.form.chunk_height refl u.1.0 w.form.high.1;
+      places = places_are tag.TileOffsets tag.TileByteCounts tag.StripOffsets tag.StripByteCounts refl refl refl refl
+          u.1.1.0 u.1.1.1.0 u.1.1.1.1.0 u.1.1.1.1.1.0;
+    }
 
     -- the look-up finds all tags of the image
     image_found : FindsPage l i

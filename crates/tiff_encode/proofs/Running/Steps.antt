@@ -38,7 +38,7 @@ use Rattle.tiff_encode.specs.Stepping.{StandsIfKnown, HasLink, Moves, StepsDraw,
 use Rattle.tiff_encode.specs.Running.{NamesLink, link_in, linked_from, DirectoryGoes, DirectoryGoesOn, ImageGoes, ImageGoesOn, DirectoryRunsOn, ImageRunsOn}
 use Rattle.tiff_base.specs.lemmas.Slices.{ok_inj, some_inj, none_some}
 use Rattle.tiff_value.specs.lemmas.File.WriteOps.{link_kept}
-use Rattle.tiff_encode.proofs.Joining.{IsAdding, adding, begin_adds, extra_adds}
+use Rattle.tiff_encode.proofs.Joining.{IsAdding, adding, open_adds}
 use Rattle.tiff_encode.proofs.Moving.{grows_here, grows_on, Led, seen}
 use Rattle.tiff_encode.proofs.Open.Begun.{begins_open}
 use Rattle.tiff_encode.proofs.Open.Ends.{grown_ended}
@@ -320,8 +320,7 @@ not_begun_runs call Ran e r old new known run ran a b refused q s =
 
 -- opening a directory only appends
 pub open_adding : (chained : Bool) (file : FileState) → IsAdding (open_directory chained file) file
-open_adding true file = adding (image_directory file) file (begin_adds file)
-open_adding false file = adding (extra_directory file) file (extra_adds file)
+open_adding chained file = adding (open_directory chained file) file (open_adds chained file)
 
 -- a job whose directory fails to begin
 pub directory_refused : (j : DirectoryJob) (r : JobReply) (e : TiffError) (old new : FileState)

@@ -25,6 +25,7 @@ use Rattle.tiff_encode.specs.ImageData.{image_of_samples, LeavesImage, FirstShow
 use Rattle.tiff_base.specs.lemmas.Slices.{ok_inj}
 use Rattle.tiff_value.specs.lemmas.File.Header.{only_link}
 use Rattle.tiff_encode.proofs.Data.Begun.{new_is}
+use Rattle.tiff_encode.proofs.Shown.Alike.{shown_alike}
 use Rattle.tiff_value.specs.lemmas.File.FirstPage.{first_told}
 use Rattle.tiff_encode.specs.lemmas.Shown.Parts.{gray_page_is, gray_sample_is}
 
@@ -61,18 +62,8 @@ module _ (width height : ℕ) (samples file : List ℕ) (kind : FileKind) (offse
       let is : s.page ≡ record (gray_page width height) { offsets = s.page.offsets; byte_counts = s.page.byte_counts } =
       s.is_image ∙ ap placed (gray_page_is state d width height packed predicted) in
       let grey = gray_color s.page width height s.color is s.is_color in
-      record {
-        page = s.page;
-        is_page = s.is_page;
-        is_image = is;
-        color = s.color;
-        is_color = s.is_color;
-        whole = s.whole;
-        shows =
-            λ x y sample a b c. s.shows x y sample a b c
-            ∙ gray_sample_is state d width height samples x y sample (subst (λ q. sample
-            < num_samples q) (sym grey) c);
-      }
+      shown_alike s is (λ x y sample a b c.
+      gray_sample_is state d width height samples x y sample (subst (λ q. sample < num_samples q) (sym grey) c))
 
 pub gray_shown : GrayShown
 gray_shown width height samples old new m k chain some packed predicted l =

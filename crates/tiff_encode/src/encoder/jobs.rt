@@ -5,7 +5,7 @@ pub(crate) mod finish;
 pub(crate) mod image_steps;
 pub(crate) mod values;
 
-ghost use Rattle.std.specs.Prelude.{◌≡◌, length, true, false};
+ghost use Rattle.std.specs.Prelude.{◌≡◌, length};
 ghost use Rattle.tiff_encode.specs.Calls as calls;
 ghost use Rattle.tiff_encode.specs.Jobs.{offsets_in};
 ghost use Rattle.tiff_encode.specs.Running.{DirectoryGoesOn, DirectoryRunsOn, IsEmptyWithRoom, ImageGoesOn, ImageRunsOn, NamesLink, link_in, linked_from, step_count};
@@ -70,58 +70,6 @@ fn lead_directory<W: Sink, K: TiffKind>(
     JobReply { steps, last }
 }
 
-// Runs a job that writes a directory of the IFD chain.
-fn run_chained<W: Sink, K: TiffKind>(
-    encoder: &mut TiffEncoder<W, K>,
-    job: &DirectoryJob,
-    parent: Option<u64>,
-    steps: Vec<TiffResult<StepReply>>,
-) -> JobReply
-    requires chained { job.now.chained ≡ true }
-    requires room { IsEmptyWithRoom (length job.now.steps.items) steps }
-    ensures { DirectoryRunsOn parent job.now result encoder.old encoder.new }
-{
-    match encoder.image_directory() {
-        Ok(directory) => {
-            let DirectoryEncoder { encoder, mut state } = directory;
-            state.link_from(parent);
-            return lead_directory(encoder, state, job, steps);
-        }
-        Err(fault) => {
-            return JobReply {
-                steps,
-                last: Err(fault),
-            };
-        }
-    }
-}
-
-// Runs a job that writes a directory outside the IFD chain, with a parent or without one.
-fn run_extra<W: Sink, K: TiffKind>(
-    encoder: &mut TiffEncoder<W, K>,
-    job: &DirectoryJob,
-    parent: Option<u64>,
-    steps: Vec<TiffResult<StepReply>>,
-) -> JobReply
-    requires chained { job.now.chained ≡ false }
-    requires room { IsEmptyWithRoom (length job.now.steps.items) steps }
-    ensures { DirectoryRunsOn parent job.now result encoder.old encoder.new }
-{
-    match encoder.extra_directory() {
-        Ok(directory) => {
-            let DirectoryEncoder { encoder, mut state } = directory;
-            state.link_from(parent);
-            return lead_directory(encoder, state, job, steps);
-        }
-        Err(fault) => {
-            return JobReply {
-                steps,
-                last: Err(fault),
-            };
-        }
-    }
-}
-
 // Returns the offset of the link of the directory that a job finished, or `None` if its reply has
 // no offsets.
 fn link_of(reply: &JobReply) -> Option<u64>
@@ -161,10 +109,18 @@ fn run_directory<W: Sink, K: TiffKind>(
     requires { IsEmptyWithRoom (length job.now.steps.items) steps }
     ensures { DirectoryRunsOn parent job.now result encoder.old encoder.new }
 {
-    if job.chained {
-        return run_chained(encoder, job, parent, steps);
+    match encoder.begin_directory(job.chained) {
+        Ok(mut state) => {
+            state.link_from(parent);
+            return lead_directory(encoder, state, job, steps);
+        }
+        Err(fault) => {
+            return JobReply {
+                steps,
+                last: Err(fault),
+            };
+        }
     }
-    run_extra(encoder, job, parent, steps)
 }
 
 // ---- images

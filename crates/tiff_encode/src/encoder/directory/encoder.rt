@@ -6,6 +6,7 @@ ghost use Rattle.tiff_encode.specs.Calls as calls;
 ghost use Rattle.tiff_value.specs.WriteOps.{model_after};
 ghost use Rattle.tiff_encode.specs.Ends.{Ends, EndsSilently, EndsAsDefined};
 ghost use Rattle.tiff_encode.specs.Extending.{Extends};
+ghost use Rattle.tiff_encode.specs.Jobs.{open_directory};
 ghost use Rattle.tiff_encode.specs.Leaves.{Leaves, LeavesLinked};
 ghost use Rattle.tiff_value.specs.Model.{IsLink, Model, FileContains};
 ghost use Rattle.tiff_encode.specs.Rooms.{StaysUnlessCut};
@@ -36,6 +37,20 @@ impl<W: Sink, K: TiffKind> TiffEncoder<W, K> {
     ghost use Rattle.std.specs.Borrow.{sem};
     ghost use Rattle.tiff_encode.specs.Lending.{image_rests, extra_rests};
 
+    // `image_directory` or `extra_directory`, without the `DirectoryEncoder` around the directory.
+    pub(crate) fn begin_directory(&mut self, chained: bool) -> TiffResult<DirectoryState>
+        ensures answer { Ends (λ d. d) (open_directory chained self.old) result self.old self.new }
+        ensures leaves { (m : Model) → FileContains self.old.kind self.old.bytes m
+            → Leaves (open_directory chained self.old) result self.old self.new m }
+    {
+        self.pad()?;
+        Ok(DirectoryState {
+            directory: Directory::empty(self.alloc),
+            parent: chained.then_some(self.chain),
+            chained,
+        })
+    }
+
     /// Begins a directory of the IFD chain, and appends padding up to a multiple of 4 bytes. When
     /// the directory ends, the last link of the chain points to it, and its own link becomes the
     /// last link of the chain.
@@ -54,16 +69,10 @@ impl<W: Sink, K: TiffKind> TiffEncoder<W, K> {
             (model_after self.entry.now.kind self.entry.now.bytes m
             (calls.image_directory self.entry.now).ops)) }
     {
-        self.pad()?;
-        let parent = Some(self.chain);
-        let directory = Directory::empty(self.alloc);
+        let state = self.begin_directory(true)?;
         Ok(DirectoryEncoder {
             encoder: self,
-            state: DirectoryState {
-                directory,
-                parent,
-                chained: true,
-            },
+            state,
         })
     }
 
@@ -84,15 +93,10 @@ impl<W: Sink, K: TiffKind> TiffEncoder<W, K> {
             (model_after self.entry.now.kind self.entry.now.bytes m
             (calls.extra_directory self.entry.now).ops)) }
     {
-        self.pad()?;
-        let directory = Directory::empty(self.alloc);
+        let state = self.begin_directory(false)?;
         Ok(DirectoryEncoder {
             encoder: self,
-            state: DirectoryState {
-                directory,
-                parent: None,
-                chained: false,
-            },
+            state,
         })
     }
 }

@@ -147,7 +147,7 @@ impl<'a, W: Sink, K: TiffKind, T: Sample> DirectoryEncoder<'a, W, K, ImageState<
         self.write_samples(ImageSamples::Typed(samples.as_slice()))
     }
 
-    // `finish`
+    // `finish`; the reply to `discard` is the same.
     fn finish_drawn(self) -> TiffResult<EndReply>
         ensures { EndMoves
             (λ s t offset. ImageEnds s self.entry.state ImageEnd.Finish result t offset)
@@ -155,18 +155,6 @@ impl<'a, W: Sink, K: TiffKind, T: Sample> DirectoryEncoder<'a, W, K, ImageState<
     {
         self.state.fact_fits();
         self.finish()?;
-        Ok(EndReply::Nothing)
-    }
-
-    // `discard`
-    fn discard_drawn(self) -> TiffResult<EndReply>
-        ensures { EndMoves
-            (λ s t offset. ImageEnds s self.entry.state ImageEnd.Discard result t offset)
-            self.entry.state.directory.parent self.entry.encoder.now self.exit.0.now
-            (ImageHeld self.entry.state ImageEnd.Discard) }
-    {
-        self.state.fact_fits();
-        self.discard()?;
         Ok(EndReply::Nothing)
     }
 
@@ -178,8 +166,7 @@ impl<'a, W: Sink, K: TiffKind, T: Sample> DirectoryEncoder<'a, W, K, ImageState<
     {
         match end {
             ImageEnd::WriteData(numbers) => return self.write_numbers(numbers),
-            ImageEnd::Finish => return self.finish_drawn(),
-            ImageEnd::Discard => return self.discard_drawn(),
+            ImageEnd::Finish | ImageEnd::Discard => return self.finish_drawn(),
         }
     }
 }

@@ -27,8 +27,7 @@ loop-step-init g c =
 
 pub push_reserved-requires : goal.push_reserved-requires
 push_reserved-requires g c =
-    let i = c.loop-step.invariant in
-    omega (arith, i.count, i.room, c.requires.room, c.loop-step-test.true)
+    omega (arith, c.loop-step.invariant.count, c.loop-step.invariant.room, c.requires.room, c.loop-step-test.true)
 
 pub loop-step-preserved : goal.loop-step-preserved
 loop-step-preserved g c =

@@ -1,4 +1,5 @@
-use Rattle.std.proofs.Common.{subst, sym}
+use Rattle.std.proofs.Common.{inl, inr, subst, sym}
+use Rattle.tiff_encode.specs.declared.encoder.script.ImageEnd.{ImageEnd}
 use Rattle.tiff_encode.specs.Jobs.{ImageEnds}
 use Rattle.tiff_encode.specs.Stepping.{EndMoves, ImageHeld}
 use Rattle.tiff_encode.proofs.encoder.jobs.finish.DirectoryEncoder+W+K+ImageState+T.end_image.Goals as goal
@@ -10,10 +11,10 @@ returns-in-WriteData g c =
 
 pub returns-in-Finish : goal.returns-in-Finish
 returns-in-Finish g c =
-    subst (λ end. EndMoves (λ s t offset. ImageEnds s c.args.self.state end c.finish_drawn.result t offset) c.args.self.state.directory.parent c.args.self.encoder.now c.finish_drawn.new.self.0 (ImageHeld c.args.self.state end))
-    (sym c.in-Finish.is) c.finish_drawn.ensures
-
-pub returns-in-Discard : goal.returns-in-Discard
-returns-in-Discard g c =
-    subst (λ end. EndMoves (λ s t offset. ImageEnds s c.args.self.state end c.discard_drawn.result t offset) c.args.self.state.directory.parent c.args.self.encoder.now c.discard_drawn.new.self.0 (ImageHeld c.args.self.state end))
-    (sym c.in-Discard.is) c.discard_drawn.ensures
+    let i = c.args.self.state in
+    let P : ImageEnd → Type 0 =
+    λ end. EndMoves (λ s t offset. ImageEnds s i end c.finish_drawn.result t offset) i.directory.parent c.args.self.encoder.now c.finish_drawn.new.self.0 (ImageHeld i end) in
+    elim c.in-Finish.is as (λ _. P c.args.end.now) [
+      | inl q ↦ subst P (sym q) c.finish_drawn.ensures
+      | inr q ↦ subst P (sym q) c.finish_drawn.ensures
+    ]
