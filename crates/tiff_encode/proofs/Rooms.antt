@@ -78,7 +78,7 @@ room_left t d is =
 
 -- ---- a value in its room
 
-pub room_kept : (room : Room) (made : Bool) (placed : Result Field TiffError) (old new : FileState)
+room_kept : (room : Room) (made : Bool) (placed : Result Field TiffError) (old new : FileState)
     → made ≡ is_made room
     → IsInRoom made old new placed → IfOk placed (λ _. is_made room ≡ true)
 room_kept room made (Ok field) old new m h = sym m ∙ h
@@ -90,7 +90,7 @@ module _ {S A : Type 0} (opened : S → OpenDirectory) (having : S → OpenDirec
   abbrev Settled : Result A TiffError → Type 0
   Settled r = IsSettled (λ field. having s (with_field (opened s) t field)) s placed r next
 
-  pub settled_stays : (r : Result A TiffError) → Settled r → OnErr r (next ≡ s)
+  settled_stays : (r : Result A TiffError) → Settled r → OnErr r (next ≡ s)
   settled_stays (Ok x) h = tt
   settled_stays (Err e) h = h.1
 
@@ -99,7 +99,7 @@ module _ {S A : Type 0} (opened : S → OpenDirectory) (having : S → OpenDirec
   settled_rest (Err e) (q, n) = n ∙ sym (own s) ∙ ap (having s) (sym (ap opened n))
 
   module _ (v : Value) (old new : FileState) (ends : Ends (λ (f : Field). f) (entry_of v old) placed old new) where
-    pub settled_ends : (r : Result A TiffError) → Settled r
+    settled_ends : (r : Result A TiffError) → Settled r
         → Ends (λ (_ : A). opened next) (tag_of (opened s) t v old) r old new
     settled_ends (Ok x) (field, (q, n)) =
         let P : Result Field TiffError → Type 0 =
