@@ -15,7 +15,7 @@ use Rattle.tiff_base.specs.declared.tags.Tag.TheVariants as tag
 use Rattle.tiff_base.specs.Number.{le}
 use Rattle.tiff_value.specs.Data.{FieldData, Scalars, u16s, formats, data_by, data_of}
 use Rattle.tiff_value.specs.Values.{Pushes}
-use Rattle.tiff_encode.specs.declared.encoder.image.finish.ChunkListKind.TheVariants.{OffsetList, ByteCountList}
+use Rattle.tiff_encode.specs.declared.encoder.finish.ChunkListKind.TheVariants.{OffsetList, ByteCountList}
 use Rattle.tiff_encode.specs.Calls.{Offsets, extended_by_first, chunk_tags, last_tags, write_tag, write_tags, finish, finish_image}
 use Rattle.tiff_encode.specs.Ends.{EndsAsDefined, CallFails, Ends}
 use Rattle.tiff_encode.specs.LastTags.{count_tags, bits_tags, samples_tags, number_of_part, list_tags_of, list_tags, offset_type}

@@ -14,8 +14,8 @@ use Rattle.tiff_base.specs.Number.{le}
 use Rattle.tiff_value.specs.Data.{Scalars, u16s, formats, data_of}
 use Rattle.tiff_value.specs.ValueLaws.{each_whole}
 use Rattle.tiff_value.specs.Values.{IsValue}
-use Rattle.tiff_encode.specs.declared.encoder.image.finish.ChunkListKind.{ChunkListKind}
-use Rattle.tiff_encode.specs.declared.encoder.image.finish.ChunkListKind.TheVariants.{OffsetList, ByteCountList}
+use Rattle.tiff_encode.specs.declared.encoder.finish.ChunkListKind.{ChunkListKind}
+use Rattle.tiff_encode.specs.declared.encoder.finish.ChunkListKind.TheVariants.{OffsetList, ByteCountList}
 use Rattle.tiff_encode.specs.Machine.{Chunk}
 use Rattle.tiff_value.specs.Fields.{offset_values}
 use Rattle.tiff_encode.specs.Calls.{extended_by_first, chunk_tags}

@@ -2,6 +2,7 @@
 
 mod directory;
 mod facts;
+mod finish;
 mod image;
 mod job_samples;
 mod jobs;

@@ -1,6 +1,5 @@
-//! Open directories: their state, their tags and values, their bytes, and their end.
+//! Open directories: their state, and their tags and values.
 
 pub(crate) mod encoder;
-pub(crate) mod finish;
 pub(crate) mod state;
 pub(crate) mod values;

@@ -1,7 +1,7 @@
 use Rattle.std.proofs.Common.{map}
 use Rattle.tiff_encode.specs.LastTags.{number_of_part}
 use Rattle.tiff_encode.proofs.Endings.{offsets_pushed}
-use Rattle.tiff_encode.proofs.encoder.image.finish.ChunkNumbersTiffValue.push_to.Goals as goal
+use Rattle.tiff_encode.proofs.encoder.finish.ChunkNumbersTiffValue.push_to.Goals as goal
 
 pub returns-clause-answer : goal.returns-clause-answer
 returns-clause-answer g c =

@@ -3,7 +3,7 @@ use Rattle.std.specs.FinMap.{len, entries}
 use Rattle.std.specs.List.{flat_map}
 use Rattle.tiff_base.specs.Number.{le}
 use Rattle.tiff_value.specs.FileBytes.{count_len, entry_bytes}
-use Rattle.tiff_encode.proofs.encoder.directory.finish.directory_bytes.Given as goal
+use Rattle.tiff_encode.proofs.encoder.finish.directory_bytes.Given as goal
 
 abbrev pub invariant-loop-tag : goal.invariant-loop-tag
 invariant-loop-tag l =

@@ -1,5 +1,5 @@
 use Rattle.tiff_value.specs.lemmas.Bytes.{front_kept}
-use Rattle.tiff_encode.proofs.encoder.image.finish.push_offsets.Goals as goal
+use Rattle.tiff_encode.proofs.encoder.finish.push_offsets.Goals as goal
 
 pub returns-in_err-push_offset-clause-front : goal.returns-in_err-push_offset-clause-front
 returns-in_err-push_offset-clause-front c =
