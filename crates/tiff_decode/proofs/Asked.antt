@@ -21,7 +21,7 @@ use Rattle.tiff_decode.specs.Asked.{EntryReadable, NextPageReadable, OpenReadabl
 use Rattle.tiff_decode.specs.ChainPosition.{IsAt, index_behind}
 use Rattle.tiff_decode.specs.Machine.{Decoding, source_of}
 use Rattle.tiff_decode.specs.Outcome.{chain_from, chain_of, end_fault, first_directory, next_offset, not_found}
-use Rattle.tiff_decode.specs.lemmas.ChainPosition.{last_of}
+use Rattle.tiff_decode.specs.lemmas.ChainPosition.{last_of, none_of, past_end}
 
 -- the bytes that a call reads, for an equal view of the decoder
 pub asked_of : (P : Decoding → Type 0) (d old : Decoding) (e : TiffError) → d ≡ old
@@ -99,6 +99,11 @@ next_entry d old t at r seen same h asked =
     subst (λ (x : Decoding). ReadsOnly (NextPageReadable x) r) seen
     (asks_more (EntryReadable t d.kind d.order at) (NextPageReadable d) r
     (λ q. subst (λ (x : SourceRecord). EntryReadable x d.kind d.order at) (sym same) (q.entry at h)) asked)
+
+-- the place of an offset that is not there
+pub past_known : (offsets : List ℕ) (k : ℕ) (known : Option ℕ) → known ≡ slice_get offsets k
+    → ((offset : ℕ) → known ≡ Some offset → ⊥) → length offsets ≤ k
+past_known offsets k known is not_some = past_end offsets k (sym is ∙ none_of known not_some)
 
 -- the last of some offsets, where no other offset follows it
 pub last_is : (offsets : List ℕ) (pointer : Option IfdPointer) (at k : ℕ) → IsAt offsets pointer at
