@@ -1,1 +1,2 @@
 pub mod ChunkBands
+mod Callers
