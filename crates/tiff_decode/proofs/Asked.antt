@@ -106,7 +106,7 @@ pub past_known : (offsets : List ℕ) (k : ℕ) (known : Option ℕ) → known �
 past_known offsets k known is not_some = past_end offsets k (sym is ∙ none_of known not_some)
 
 -- the last of some offsets, where no other offset follows it
-pub last_is : (offsets : List ℕ) (pointer : Option IfdPointer) (at k : ℕ) → IsAt offsets pointer at
+last_is : (offsets : List ℕ) (pointer : Option IfdPointer) (at k : ℕ) → IsAt offsets pointer at
     → k ≡ index_behind pointer at → length offsets ≤ k
     → last_or None offsets ≡ option_map (λ p. p.0) pointer
 last_is offsets (Some p) at k h e l =
@@ -115,6 +115,14 @@ last_is offsets (Some p) at k h e l =
     last_of offsets ∙ ap (slice_get offsets) here ∙ h
 last_is [] None at k h e l = refl
 last_is (p ∷ ps) None at k h e l = absurd (omega (arith, l, e))
+
+-- the same of an offset that was looked up and is not there
+pub last_known : (offsets : List ℕ) (pointer : Option IfdPointer) (at k : ℕ) (known : Option ℕ)
+    → IsAt offsets pointer at → k ≡ index_behind pointer at → known ≡ slice_get offsets k
+    → ((offset : ℕ) → known ≡ Some offset → ⊥)
+    → last_or None offsets ≡ option_map (λ p. p.0) pointer
+last_known offsets pointer at k known h e is not_some =
+    last_is offsets pointer at k h e (past_known offsets k known is not_some)
 
 -- the directory that the last link leads to
 pub next_behind : (d old : Decoding) (t : SourceRecord) (walk : Walked) (e : TiffError) → d ≡ old

@@ -1,7 +1,7 @@
 use Rattle.std.proofs.Common.{Some, None, Err, false, refl, sym, ◌∙◌}
 use Rattle.tiff_decode.specs.Machine.{Decoding, from_fields}
 use Rattle.tiff_decode.specs.Outcome.{next_image}
-use Rattle.tiff_decode.proofs.Asked.{entered_page, last_is, next_behind, next_entry, none_asks, past_known}
+use Rattle.tiff_decode.proofs.Asked.{entered_page, last_known, next_behind, next_entry, none_asks, past_known}
 use Rattle.tiff_decode.specs.lemmas.ChainPosition.{offset_behind, next_known, next_read, next_closed, added_at, answered, unfailed, none_found, shown_open, told_same, stands_told, stays_refused}
 use Rattle.tiff_decode.proofs.decoder.Decoder.next_image.Goals as goal
 
@@ -86,15 +86,13 @@ pub returns-then-keeps_state-clause-asked : goal.returns-then-keeps_state-clause
 returns-then-keeps_state-clause-asked g c =
     let s = c.self.inside in
     next_behind _ _ (g.R.Source.contents s.tags.source) s.walk c.in-Err.fault c.self.view_is refl c.self.invariant.begins
-    (last_is s.walk.offsets s.standing.pointer s.standing.at c.following-at.result c.self.invariant.stands c.following-at.ensures.number
-    (past_known _ _ _ c.get-known.ensures c.in_default.not-Some)) c.in-Err.ensures.asked
+    (last_known s.walk.offsets s.standing.pointer s.standing.at _ _ c.self.invariant.stands c.following-at.ensures.number c.get-known.ensures c.in_default.not-Some) c.in-Err.ensures.asked
 
 pub returns-in-Err-clause-asked : goal.returns-in-Err-clause-asked
 returns-in-Err-clause-asked g c =
     let s = c.self.inside in
     next_behind _ _ (g.R.Source.contents s.tags.source) s.walk c.in-Err.fault c.self.view_is refl c.self.invariant.begins
-    (last_is s.walk.offsets s.standing.pointer s.standing.at c.following-at.result c.self.invariant.stands c.following-at.ensures.number
-    (past_known _ _ _ c.get-known.ensures c.in_default.not-Some)) c.in-Err.ensures.asked
+    (last_known s.walk.offsets s.standing.pointer s.standing.at _ _ c.self.invariant.stands c.following-at.ensures.number c.get-known.ensures c.in_default.not-Some) c.in-Err.ensures.asked
 
 pub returns-in-Ok-None-clause-asked : goal.returns-in-Ok-None-clause-asked
 returns-in-Ok-None-clause-asked g c = none_asks c.into-in-Ok-None.result c.into-in-Ok-None.ensures
