@@ -1,5 +1,5 @@
 use Rattle.std.proofs.Common.{Some, None, Err, false, refl, sym, ◌∙◌}
-use Rattle.tiff_decode.specs.Machine.{Decoding, from_fields}
+use Rattle.tiff_decode.specs.Machine.{from_fields}
 use Rattle.tiff_decode.specs.Outcome.{next_image}
 use Rattle.tiff_decode.proofs.Asked.{entered_page, last_known, next_behind, next_entry, none_asks, past_known}
 use Rattle.tiff_decode.specs.lemmas.ChainPosition.{offset_behind, next_known, next_read, next_closed, added_at, answered, unfailed, none_found, shown_open, told_same, stands_told, stays_refused}
@@ -17,11 +17,9 @@ pub returns-in-Ok-Some-clause-follows : goal.returns-in-Ok-Some-clause-follows
 returns-in-Ok-Some-clause-follows g c =
     let s = c.self.inside in
     let d = from_fields g.R.Source.contents g.R.Source.failures s.tags s.first s.standing.pointer s.standing.more s.page s.offset in
-    let mid : Decoding =
-    record d { bytes = (g.R.Source.contents c.enter_behind.new.source).bytes; readable = (g.R.Source.contents c.enter_behind.new.source).readable; failures = g.R.Source.failures c.enter_behind.new.source } in
     let e = rw c.in-Ok-Some.field-0-is at c.in-Ok-Some.ensures.entered in
     shown_open c.enter_directory.result d _ _ c.self.view_is (cc)
-    (next_read c.enter_directory.result d mid _ s.walk c.enter_behind.new.walk s.standing.at c.following-at.result c.in-Ok-Some.offset c.in-Ok-Some.directory
+    (next_read c.enter_directory.result d _ _ s.walk c.enter_behind.new.walk s.standing.at c.following-at.result c.in-Ok-Some.offset c.in-Ok-Some.directory
     c.self.invariant (cc) c.following-at.ensures.number (c.enter_behind.ensures.begins s.first c.self.invariant.begins)
     (added_at s.walk.offsets c.enter_behind.new.walk.offsets c.following-at.result c.in-Ok-Some.offset e.0 c.following-at.ensures.entered
     (past_known _ _ _ c.get-known.ensures c.in_default.not-Some))
