@@ -16,6 +16,7 @@ use Rattle.tiff_page.specs.PageView as view
 use Rattle.tiff_page.specs.lemmas.Filling.{form_cause, rows_cause, plane_none, plane_more, plane_room}
 use Rattle.tiff_page.specs.lemmas.Requests.{part_asked}
 use Rattle.tiff_page.specs.lemmas.Planes.{form_read, method_passed}
+use Rattle.tiff_page.proofs.Callers.{returned}
 use Rattle.tiff_page.proofs.page_reader.PageReader.plane_chunks.Goals as goal
 
 -- the index of a chunk in all planes, by equal numbers
@@ -43,9 +44,7 @@ pub returns-in_err-form_fault-clause-answer : goal.returns-in_err-form_fault-cla
 returns-in_err-form_fault-clause-answer g c =
     let p = c.args.self.now.page.now in
     let next = c.args.next in
-    let q = same_place next.index c.from.ensures c.chunks_of_plane-in_plane.ensures.count in
-    let answered = err_from_is_err_and c.from_residual.result c.from_residual.ensures.1 in
-    rw (answered.1, answered.2) (form_cause (g.R.Source.contents c.args.source.now).bytes c.args.self.now.order (view.page p) c.args.self.now.limits.now next.color next.planes next.index _ c.loop-plane.plane _ c.in_err-form_fault.field-0.0 q c.loop-plane-test.true c.loop-plane.invariant.none c.in_err-form_fault.ensures.answer)
+    returned _ _ _ _ _ _ c.from_residual.ensures.1 (form_cause (g.R.Source.contents c.args.source.now).bytes c.args.self.now.order (view.page p) c.args.self.now.limits.now next.color next.planes next.index _ c.loop-plane.plane _ c.in_err-form_fault.field-0.0 (same_place next.index c.from.ensures c.chunks_of_plane-in_plane.ensures.count) c.loop-plane-test.true c.loop-plane.invariant.none c.in_err-form_fault.ensures.answer)
 
 pub rows-requires : goal.rows-requires
 rows-requires g c =
@@ -73,14 +72,11 @@ pub returns-in_err-rows-clause-answer : goal.returns-in_err-rows-clause-answer
 returns-in_err-rows-clause-answer g c =
     let p = c.args.self.now.page.now in
     let next = c.args.next in
-    let q = same_place next.index c.from.ensures c.chunks_of_plane-in_plane.ensures.count in
     let given =
     subst (λ (bytes : List ℕ). IsCause (Unit {0}) (g.R.Source.failures c.loop-plane.source
     < g.R.Source.failures c.rows.new.source) c.in_err-rows.field-0.0 (fail_if (is_short bytes c.args.self.now.order (view.page p) next.color (c.from.result * c.chunks_of_plane-in_plane.result + next.index)) (IoError UnexpectedEof) ≡ Err c.in_err-rows.field-0.0)) (same_bytes c.loop-plane.invariant.same) c.in_err-rows.ensures.answer in
-    let answered =
-    err_from_is_err_and c.from_residual-in_err-rows.result c.from_residual-in_err-rows.ensures.1 in
-    rw (answered.1, answered.2) (rows_cause (g.R.Source.contents c.args.source.now).bytes c.args.self.now.order (view.page p) c.args.self.now.limits.now next.color next.planes next.index
-    _ _ c.loop-plane.plane _ c.in_err-rows.field-0.0 q (λ f. omega (arith, f, c.loop-plane.invariant.count)) c.loop-plane-test.true c.loop-plane.invariant.none c.in_ok-form_fault.ensures.answer given)
+    returned _ _ _ _ _ _ c.from_residual-in_err-rows.ensures.1 (rows_cause (g.R.Source.contents c.args.source.now).bytes c.args.self.now.order (view.page p) c.args.self.now.limits.now next.color next.planes next.index
+    _ _ c.loop-plane.plane _ c.in_err-rows.field-0.0 (same_place next.index c.from.ensures c.chunks_of_plane-in_plane.ensures.count) (λ f. omega (arith, f, c.loop-plane.invariant.count)) c.loop-plane-test.true c.loop-plane.invariant.none c.in_ok-form_fault.ensures.answer given)
 
 pub loop-plane-preserved : goal.loop-plane-preserved
 loop-plane-preserved g c =
@@ -121,8 +117,7 @@ pub returns-in_err-rows-clause-asked : goal.returns-in_err-rows-clause-asked
 returns-in_err-rows-clause-asked g c =
     let p = c.args.self.now.page.now in
     let next = c.args.next in
-    let q = same_place next.index c.from.ensures c.chunks_of_plane-in_plane.ensures.count in
     let answered =
     err_from_is_err_and c.from_residual-in_err-rows.result c.from_residual-in_err-rows.ensures.1 in
     rw (answered.1, answered.2) (part_asked (view.page p) next.color (chunk_part (view.page p) next.index next.planes next.first.stride) c.loop-plane.plane 0 _ _ (g.R.Source.contents c.args.source.now) (g.R.Source.contents c.loop-plane.source) c.loop-plane.invariant.same
-    (q ∙ omega arith) c.loop-plane-test.true (omega arith) c.in_err-rows.ensures.asked)
+    (same_place next.index c.from.ensures c.chunks_of_plane-in_plane.ensures.count ∙ omega arith) c.loop-plane-test.true (omega arith) c.in_err-rows.ensures.asked)
