@@ -271,11 +271,11 @@ last_block size m at k b bytes now part there room e p =
     ∙ turned_behind size (m * k) b bytes front
 
 -- one step of a loop that turns m numbers at once, sixteen bytes of a slice
-pub next_part : (size m k : ℕ) (bytes now part : List ℕ) → 16 ≡ size * m → k < length bytes / 16
+pub one_more : (size m k : ℕ) (bytes : List ℕ) {now part : List ℕ} → 16 ≡ size * m → k < length bytes / 16
     → now ≡ turned_units size (m * k) bytes
     → part ≡ turned_units size m (take (k * 16 + 16 - k * 16) (drop (k * 16) now))
     → put_mid (k * 16) (k * 16 + 16 - k * 16) now part ≡ turned_units size (m * (k + 1)) bytes
-next_part size m k bytes now part whole h e p =
+one_more size m k bytes {now} {part} whole h e p =
     let more : m * k + m ≡ m * (k + 1) = omega arith in
     let there : k * 16 ≡ m * k * size = omega (arith, ap (λ (j : ℕ). k * j) whole) in
     next_block size m 16 (k * 16) k bytes now part whole there (omega (arith, h)) e p

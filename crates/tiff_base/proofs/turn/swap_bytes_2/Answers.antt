@@ -1,10 +1,9 @@
 use Rattle.std.proofs.Common.{refl}
-use Rattle.tiff_base.proofs.ByteOrders.{next_part, last_part}
+use Rattle.tiff_base.proofs.ByteOrders.{one_more, last_part}
 use Rattle.tiff_base.proofs.turn.swap_bytes_2.Goals as goal
 
 pub parts-preserved : goal.parts-preserved
-parts-preserved c =
-    next_part 2 8 _ _ _ _ refl c.parts-test.true c.parts.invariant c.turn_lanes_2.ensures
+parts-preserved c = one_more 2 8 _ _ refl c.parts-test.true c.parts.invariant c.turn_lanes_2.ensures
 
 pub returns : goal.returns
 returns c =
