@@ -1,2 +1,3 @@
 pub mod ChunkBands
 mod Callers
+mod Fitted
