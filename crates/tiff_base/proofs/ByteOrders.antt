@@ -3,7 +3,7 @@ use Rattle.std.proofs.Common.{◌≡◌, ℕ, zero, suc, ◌+◌, ◌*◌, ◌/�
 use Rattle.std.proofs.Math.Seq.{take-append-add, drop-append-add}
 use Rattle.std.specs.List.{flat_map, range_with_len}
 use Rattle.std.proofs.lemmas.List.{take_all, drop_all, take-append-le, drop-append-le, drop-drop, append_assoc, length-reverse, take_at, drop_at, take-append-drop, reverse-reverse, length-take-le}
-use Rattle.std.proofs.Math.Nat.{mul_comm, mod-add-div, mul-div-le, mul-le-mul_left, le_trans}
+use Rattle.std.proofs.Math.Nat.{mul_comm, mod-add-div, mul-add-div, mul-div-le, mul-le-mul_left, le_trans}
 use Rattle.std.proofs.lemmas.List.Edits.{paste_all}
 use Rattle.std.proofs.lemmas.Slice.{put_mid-paste}
 use borrow.Rule.Slice.PartMut.{put_mid}
@@ -221,7 +221,7 @@ turned_in size (suc count) xs ys h =
     ∙ ap (λ l. l ++ ys) (sym (turned_first size count xs))
 
 -- one step of a loop that turns m numbers of a slice at once, L bytes of it
-pub next_block : (size m L at k : ℕ) (bytes now part : List ℕ) → L ≡ size * m → at ≡ m * k * size
+next_block : (size m L at k : ℕ) (bytes now part : List ℕ) → L ≡ size * m → at ≡ m * k * size
     → at + L ≤ length bytes → now ≡ turned_units size (m * k) bytes
     → part ≡ turned_units size m (take (at + L - at) (drop at now))
     → put_mid at (at + L - at) now part ≡ turned_units size (m * k + m) bytes
@@ -250,7 +250,7 @@ next_block size m L at k bytes now part whole there room e p =
     ∙ turned_behind size (m * k) m bytes front
 
 -- the numbers after whole blocks, turned to the end
-pub last_block : (size m at k b : ℕ) (bytes now part : List ℕ) → at ≡ m * k * size
+last_block : (size m at k b : ℕ) (bytes now part : List ℕ) → at ≡ m * k * size
     → at ≤ length bytes → now ≡ turned_units size (m * k) bytes
     → part ≡ turned_units size b (take (length now - at) (drop at now))
     → put_mid at (length now - at) now part ≡ turned_units size (m * k + b) bytes
@@ -269,3 +269,39 @@ last_block size m at k b bytes now part there room e p =
     ∙ ap (λ (j : ℕ). take j (turned_units size (m * k) bytes)
     ++ turned_units size b (drop j (turned_units size (m * k) bytes))) there
     ∙ turned_behind size (m * k) b bytes front
+
+-- one step of a loop that turns m numbers at once, sixteen bytes of a slice
+pub one_more : (size m k : ℕ) (bytes : List ℕ) {now part : List ℕ} → 16 ≡ size * m → k < length bytes / 16
+    → now ≡ turned_units size (m * k) bytes
+    → part ≡ turned_units size m (take (k * 16 + 16 - k * 16) (drop (k * 16) now))
+    → put_mid (k * 16) (k * 16 + 16 - k * 16) now part ≡ turned_units size (m * (k + 1)) bytes
+one_more size m k bytes {now} {part} whole h e p =
+    let more : m * k + m ≡ m * (k + 1) = omega arith in
+    let there : k * 16 ≡ m * k * size = omega (arith, ap (λ (j : ℕ). k * j) whole) in
+    next_block size m 16 (k * 16) k bytes now part whole there (omega (arith, h)) e p
+    ∙ ap (λ (j : ℕ). turned_units size j bytes) more
+
+some_size : (size m : ℕ) → 16 ≡ size * m → zero < size
+some_size zero m h = absurd (omega (arith, h))
+some_size (suc size) m h = omega arith
+
+-- the numbers after the last sixteen bytes, turned to the end of the slice
+pub last_part : (size m k : ℕ) (bytes now part : List ℕ) → 16 ≡ size * m → length bytes / 16 ≤ k
+    → k ≤ length bytes / 16 → now ≡ turned_units size (m * k) bytes
+    → (let at = length bytes / 16 * 16 in
+    let rest = take (length now - at) (drop at now) in
+    part ≡ turned_units size (length rest / size) rest
+    → put_mid at (length now - at) now part ≡ turned_units size (length bytes / size) bytes)
+last_part size m k bytes now part whole above below e p =
+    let at = length bytes / 16 * 16 in
+    let rest = take (length now - at) (drop at now) in
+    let ended : at ≡ k * 16 = omega (arith, above, below) in
+    let there : at ≡ m * k * size = omega (arith, ended, ap (λ (j : ℕ). k * j) whole) in
+    let same : length now ≡ length bytes =
+    ap length e ∙ length-turned_units size (m * k) bytes (omega (arith, there)) in
+    let long : length bytes ≡ size * (m * k) + length rest =
+    omega (arith, there, same, length-drop at now, length-take-le (length now - at) (drop at now) (omega (arith, length-drop at now))) in
+    let all : m * k + length rest / size ≡ length bytes / size =
+    sym (ap (λ (j : ℕ). j / size) long ∙ mul-add-div (some_size size m whole) (m * k) (length rest)) in
+    last_block size m at k (length rest / size) bytes now part there (omega arith) e p
+    ∙ ap (λ (j : ℕ). turned_units size j bytes) all

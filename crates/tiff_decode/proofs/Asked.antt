@@ -21,7 +21,7 @@ use Rattle.tiff_decode.specs.Asked.{EntryReadable, NextPageReadable, OpenReadabl
 use Rattle.tiff_decode.specs.ChainPosition.{IsAt, index_behind}
 use Rattle.tiff_decode.specs.Machine.{Decoding, source_of}
 use Rattle.tiff_decode.specs.Outcome.{chain_from, chain_of, end_fault, first_directory, next_offset, not_found}
-use Rattle.tiff_decode.specs.lemmas.ChainPosition.{last_of}
+use Rattle.tiff_decode.specs.lemmas.ChainPosition.{last_of, none_of, past_end}
 
 -- the bytes that a call reads, for an equal view of the decoder
 pub asked_of : (P : Decoding → Type 0) (d old : Decoding) (e : TiffError) → d ≡ old
@@ -100,8 +100,13 @@ next_entry d old t at r seen same h asked =
     (asks_more (EntryReadable t d.kind d.order at) (NextPageReadable d) r
     (λ q. subst (λ (x : SourceRecord). EntryReadable x d.kind d.order at) (sym same) (q.entry at h)) asked)
 
+-- the place of an offset that is not there
+pub past_known : (offsets : List ℕ) (k : ℕ) (known : Option ℕ) → known ≡ slice_get offsets k
+    → ((offset : ℕ) → known ≡ Some offset → ⊥) → length offsets ≤ k
+past_known offsets k known is not_some = past_end offsets k (sym is ∙ none_of known not_some)
+
 -- the last of some offsets, where no other offset follows it
-pub last_is : (offsets : List ℕ) (pointer : Option IfdPointer) (at k : ℕ) → IsAt offsets pointer at
+last_is : (offsets : List ℕ) (pointer : Option IfdPointer) (at k : ℕ) → IsAt offsets pointer at
     → k ≡ index_behind pointer at → length offsets ≤ k
     → last_or None offsets ≡ option_map (λ p. p.0) pointer
 last_is offsets (Some p) at k h e l =
@@ -110,6 +115,14 @@ last_is offsets (Some p) at k h e l =
     last_of offsets ∙ ap (slice_get offsets) here ∙ h
 last_is [] None at k h e l = refl
 last_is (p ∷ ps) None at k h e l = absurd (omega (arith, l, e))
+
+-- the same of an offset that was looked up and is not there
+pub last_known : (offsets : List ℕ) (pointer : Option IfdPointer) (at k : ℕ) (known : Option ℕ)
+    → IsAt offsets pointer at → k ≡ index_behind pointer at → known ≡ slice_get offsets k
+    → ((offset : ℕ) → known ≡ Some offset → ⊥)
+    → last_or None offsets ≡ option_map (λ p. p.0) pointer
+last_known offsets pointer at k known h e is not_some =
+    last_is offsets pointer at k h e (past_known offsets k known is not_some)
 
 -- the directory that the last link leads to
 pub next_behind : (d old : Decoding) (t : SourceRecord) (walk : Walked) (e : TiffError) → d ≡ old

@@ -39,32 +39,34 @@ wanted_after early view o (Err e) old new h w =
 
 -- ---- slices of zeros
 
+-- a read into a slice of zeros
+zeros_read : (read : List ℕ → Outcome (List ℕ)) (old new : Decoding) (len : ℕ) (xs : List ℕ)
+    (r : Result (Unit {0}) TiffError) (b : Vec ℕ Global)
+    → xs ≡ replicate len 0 → Follows (λ _. items_of b) (read xs) r old new
+    → Follows (λ _. items_of b) (read (replicate len 0)) r old new
+zeros_read read old new len xs r b zeros h =
+    subst (λ (xs : List ℕ). Follows (λ _. items_of b) (read xs) r old new) zeros h
+
 pub image_bytes : (old new : Decoding) (len : ℕ) (xs : List ℕ) (r : Result (Unit {0}) TiffError)
     (b : Vec ℕ Global)
     → xs ≡ replicate len 0 → Follows (λ _. items_of b) (outcome.read_image_bytes old xs) r old new
     → Follows (λ _. items_of b) (outcome.read_image_bytes old (replicate len 0)) r old new
 image_bytes old new len xs r b zeros h =
-    let P : List ℕ → Type 0 =
-    λ xs. Follows (λ _. items_of b) (outcome.read_image_bytes old xs) r old new in
-    subst P zeros h
+    zeros_read (outcome.read_image_bytes old) old new len xs r b zeros h
 
 pub chunk_bytes : (old new : Decoding) (chunk len : ℕ) (xs : List ℕ)
     (r : Result (Unit {0}) TiffError) (b : Vec ℕ Global)
     → xs ≡ replicate len 0 → Follows (λ _. items_of b) (outcome.read_chunk_bytes old chunk xs) r old new
     → Follows (λ _. items_of b) (outcome.read_chunk_bytes old chunk (replicate len 0)) r old new
 chunk_bytes old new chunk len xs r b zeros h =
-    let P : List ℕ → Type 0 =
-    λ xs. Follows (λ _. items_of b) (outcome.read_chunk_bytes old chunk xs) r old new in
-    subst P zeros h
+    zeros_read (outcome.read_chunk_bytes old chunk) old new len xs r b zeros h
 
 pub unit_bytes : (old new : Decoding) (unit len : ℕ) (xs : List ℕ) (r : Result (Unit {0}) TiffError)
     (b : Vec ℕ Global)
     → xs ≡ replicate len 0 → Follows (λ _. items_of b) (outcome.read_coding_unit_bytes old unit xs) r old new
     → Follows (λ _. items_of b) (outcome.read_coding_unit_bytes old unit (replicate len 0)) r old new
 unit_bytes old new unit len xs r b zeros h =
-    let P : List ℕ → Type 0 =
-    λ xs. Follows (λ _. items_of b) (outcome.read_coding_unit_bytes old unit xs) r old new in
-    subst P zeros h
+    zeros_read (outcome.read_coding_unit_bytes old unit) old new len xs r b zeros h
 
 -- a call that cannot run out of memory follows the outcome of a call that can
 may_want : {X Y : Type 0} (view : X → Y) (r : Result X TiffError) (given : Result Y TiffError)

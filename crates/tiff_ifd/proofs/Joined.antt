@@ -1,10 +1,17 @@
 -- Lists that are joined.
-use Rattle.std.proofs.Common.{◌≡◌, List, [], ◌∷◌, ◌++◌, length, take, map, Vec, Result, Ok, Err, refl, ap, ◌∙◌, arith, append_assoc}
+use Rattle.std.proofs.Common.{◌≡◌, List, [], ◌∷◌, ◌++◌, length, take, map, Vec, Result, Ok, Err, refl, rules, ap, ◌∙◌, arith, append_assoc, ℤ}
+use Rattle.std.specs.Prelude.{IsErrAnd}
 use Rattle.std.specs.declared.alloc.Global.{Global}
+use Rattle.std.proofs.lemmas.Result.{err_from_is_err_and}
 use Rattle.tiff_base.specs.declared.error.TiffError.{TiffError}
 use Rattle.std.proofs.Math.Seq.{take-append_seam}
 use Rattle.std.proofs.lemmas.List.{map-append, take_all}
-use Rattle.tiff_base.specs.Answers.{AnswersWithoutSource}
+use Rattle.tiff_base.specs.Answers.{AnswersWithoutSource, Gives}
+use Rattle.tiff_base.specs.lemmas.Causes.{cause_along}
+use Rattle.tiff_ifd.specs.Into.{append_numbers, into_i32, into_i64, i32s_of, i64s_of, single_number}
+use Rattle.tiff_ifd.specs.View.{plain_value}
+use Rattle.tiff_ifd.specs.declared.value.Value.{Value, the_lemmas}
+use Rattle.tiff_ifd.specs.declared.value.Value.TheVariants.{SRational, SRationalBig}
 
 pub two_more : {A : Type 0} (xs ys zs : List A) (x y : A) → ys ≡ xs ++ x ∷ [] → zs ≡ ys ++ y ∷ []
     → zs ≡ xs ++ x ∷ y ∷ []
@@ -32,3 +39,22 @@ front_appended new old xs e = ap (take (length old)) e ∙ take-append_seam old 
 
 pub front_same : {A : Type 0} (new old : List A) → new ≡ old → take (length old) new ≡ old
 front_same new old e = ap (take (length old)) e ∙ take_all (length old) old (omega arith)
+
+-- a value that is no rational has one number at most
+pub no_rational : (v : Value)
+    → ((n d : ℤ) → v ≡ SRational n d → ⊥) → ((n d : ℤ) → v ≡ SRationalBig n d → ⊥)
+    → (i32s_of (plain_value v) ≡ single_number (into_i32 (plain_value v)))
+    × (i64s_of (plain_value v) ≡ single_number (into_i64 (plain_value v)))
+no_rational (SRational n d) small big = absurd (small n d refl)
+no_rational (SRationalBig n d) small big = absurd (big n d refl)
+no_rational v small big = search (rules, the_lemmas)
+
+-- a number that is refused leaves the old numbers as they are
+pub number_refused : (r : Result (Unit {0}) TiffError) (e : TiffError) (old : List ℤ)
+    (one : Result ℤ TiffError) (all : Result (List ℤ) TiffError)
+    → IsErrAnd r (λ y. y ≡ e) → all ≡ single_number one → Gives (λ (n : ℤ). n) (Err e) one
+    → AnswersWithoutSource (λ _. old) r (append_numbers old all)
+number_refused r e old one all answered single refused =
+    let a = err_from_is_err_and r answered in
+    rw (a.1, a.2, single) (cause_along e (λ w. absurd w) (λ f. f)
+    (λ g. ap (λ x. append_numbers old (single_number x)) g) refused)

@@ -1,1 +1,3 @@
 pub mod ChunkBands
+mod Callers
+mod Fitted

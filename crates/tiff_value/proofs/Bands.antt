@@ -15,7 +15,7 @@ use Rattle.tiff_base.specs.declared.error.TiffError.{TiffError}
 use Rattle.tiff_base.specs.declared.tags.«Type».{«Type»}
 use Rattle.tiff_base.specs.declared.tags.«Type».TheVariants.{BYTE, ASCII, SHORT, LONG, RATIONAL, SBYTE, UNDEFINED, SSHORT, SLONG, SRATIONAL, FLOAT, DOUBLE, IFD, LONG8, SLONG8, IFD8}
 use Rattle.tiff_base.specs.declared.tags.Predictor.TheVariants.{Horizontal}
-use Rattle.tiff_value.specs.Differences.{stored_difference, differences, predicted_part, predicted_row}
+use Rattle.tiff_value.specs.Differences.{IsPart, stored_difference, differences, predicted_part, predicted_row}
 use Rattle.tiff_value.specs.Written.{Written, writer_after, IsStopped, IsCut, WritesRaw}
 use Rattle.tiff_value.proofs.Chunk.{joined, left_plain, row_made, row_seen}
 use Rattle.tiff_base.specs.declared.tags.Predictor.{Predictor}
@@ -47,7 +47,7 @@ type_band SLONG8 = (lit< tt, lit< tt)
 type_band IFD8 = (lit< tt, lit< tt)
 
 -- a part of a room of 8192 bytes, for as many numbers as fit, has the bytes of these numbers
-pub band_long : (room : List ℕ) (at n size w : ℕ) → w ≡ size → n ≤ 8192 / w → length room ≡ 8192
+band_long : (room : List ℕ) (at n size w : ℕ) → w ≡ size → n ≤ 8192 / w → length room ≡ 8192
     → length (take ((at + n - at) * w) room) ≡ (at + n - at) * size
 band_long room at n size w same most long =
     let count : at + n - at ≡ n = omega arith in
@@ -56,6 +56,12 @@ band_long room at n size w same most long =
     subst (λ (k : ℕ). k * w ≤ length room) (sym count) (subst (λ (k : ℕ). n * w
     ≤ k) (sym long) few) in
     length-take-le ((at + n - at) * w) room within ∙ ap (λ (k : ℕ). (at + n - at) * k) same
+
+-- the room has the bytes of a part of a row
+pub band_part : (long : ℕ) (room : List ℕ) (at n size w : ℕ) → at + n ≤ long → w ≡ size → n ≤ 8192 / w
+    → length room ≡ 8192 → IsPart long at (at + n) size (length (take ((at + n - at) * w) room))
+band_part long room at n size w inside same most whole =
+    record { order = omega arith; within = inside; fills = band_long room at n size w same most whole }
 
 module _ (size : ℕ) (F : ℕ → ℕ) where
   -- the bytes of the first n numbers

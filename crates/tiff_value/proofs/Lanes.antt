@@ -137,6 +137,19 @@ below_more b m row i x within is low all k h = elim (cases_lt k i) [
       omega (arith, low, ap (λ (j : ℕ). get_or (map b row) j 0) e, get_or-map b row i x 0 within, ap b (sym is))
 ]
 
+-- the values so far, and then the next one
+one_set : {A : Type 0} (b : A → ℕ) (value : ℕ → ℕ) (k : ℕ) (next : A) (out new : List A)
+    → k < length out → new ≡ set out k next → value k ≡ b next
+    → map b (take k out) ≡ map value (range_with_len 0 k)
+    → map b (take (k + 1) new) ≡ map value (range_with_len 0 (k + 1))
+one_set b value k next out new within is step done =
+    let more : k + 1 ≡ suc k = omega arith in
+    (λ j. map b (take (more j) (is j)))
+    ∙ ap (map b) (take-suc-set out k next within)
+    ∙ map-append b (take k out) (next ∷ [])
+    ∙ (λ j. done j ++ sym step j ∷ [])
+    ∙ sym (map-range_with_len_more value 0 k k (omega arith))
+
 -- The first k of a list of n numbers are numbers of a row, each minus a number before it.
 pub record LessUpto {A : Type 0} (b : A → ℕ) (m at before : ℕ) (row : List A) (n k : ℕ)
     (out : List A) : Type 0 where
@@ -159,14 +172,9 @@ less_one b m at before row n k x y next out new within there behind is_x is_y is
     let wraps : b x + (m - b y) ≡ b x + m - b y = omega (arith, low) in
     let step : each k ≡ b next =
     (λ i. (one i + (m - other i)) % m) ∙ ap (λ (q : ℕ). q % m) wraps ∙ sym is_next in
-    let more : k + 1 ≡ suc k = omega arith in
     record {
       long = ap length e ∙ length-set out k next ∙ h.long;
-      done = (λ j. map b (take (more j) (e j)))
-          ∙ ap (map b) (take-suc-set out k next (omega (arith, h.long, within)))
-          ∙ map-append b (take k out) (next ∷ [])
-          ∙ (λ j. h.done j ++ sym step j ∷ [])
-          ∙ sym (map-range_with_len_more each 0 k k (omega arith));
+      done = one_set b each k next out new (omega (arith, h.long, within)) e step h.done;
     }
 
 -- all n differences
@@ -241,14 +249,9 @@ module _ {A : Type 0} (b : A → ℕ) (m s : ℕ) (row : List A) where
       ∙ ap (λ (y : ℕ). (y + m - get_or xs (i - s) 0) % m) one
       ∙ ap (λ (y : ℕ). (b x + m - y) % m) other
       ∙ sym is_next in
-      let more : i + 1 ≡ suc i = omega arith in
       record {
         long = ap length e ∙ length-set out i next ∙ h.long;
-        done = (λ j. map b (take (more j) (e j)))
-            ∙ ap (map b) (take-suc-set out i next (omega (arith, h.long, within)))
-            ∙ map-append b (take i out) (next ∷ [])
-            ∙ (λ j. h.done j ++ sym step j ∷ [])
-            ∙ sym (map-range_with_len_more value 0 i i (omega arith));
+        done = one_set b value i next out new (omega (arith, h.long, within)) e step h.done;
       }
 
   pub upto_all : (n : ℕ) (out : List A) → 0 < s → s ≤ length row → n ≡ length row → Upto n out

@@ -1,31 +1,10 @@
-use Rattle.std.proofs.Common.{◌≡◌, ◌+◌, ◌-◌, ◌*◌, ◌/◌, ℕ, length, take, drop, ap, ◌∙◌, refl, arith, length-drop}
-use Rattle.std.proofs.lemmas.List.{length-take-le}
-use Rattle.tiff_base.proofs.ByteOrders.{length-turned_units, next_block, last_block}
+use Rattle.std.proofs.Common.{refl}
+use Rattle.tiff_base.proofs.ByteOrders.{one_more, last_part}
 use Rattle.tiff_base.proofs.turn.swap_bytes_2.Goals as goal
-use Rattle.tiff_base.specs.ByteOrders.{turned_units}
 
 pub parts-preserved : goal.parts-preserved
-parts-preserved c =
-    let bytes = c.args.buffer.now in
-    let more : 8 * c.parts.k + 8 ≡ 8 * (c.parts.k + 1) = omega arith in
-    next_block 2 8 16 (c.parts.k * 16) c.parts.k bytes c.parts.buffer c.turn_lanes_2.new.part refl
-    (omega arith) (omega (arith, c.parts-test.true)) c.parts.invariant
-    c.turn_lanes_2.ensures
-    ∙ ap (λ (j : ℕ). turned_units 2 j bytes) more
+parts-preserved c = one_more 2 8 _ _ refl c.parts-test.true c.parts.invariant c.turn_lanes_2.ensures
 
 pub returns : goal.returns
 returns c =
-    let bytes = c.args.buffer.now in
-    let at = length bytes / 16 * 16 in
-    let rest = take (length c.parts.buffer - at) (drop at c.parts.buffer) in
-    let ended : c.parts.k ≡ length bytes / 16 =
-    omega (arith, c.parts-test.false, c.parts.auto.k-end) in
-    let same : length c.parts.buffer ≡ length bytes =
-    ap length c.parts.invariant ∙ length-turned_units 2 (8 * c.parts.k) bytes (omega (arith, ended)) in
-    let long : length rest ≡ length bytes - at =
-    length-take-le (length c.parts.buffer - at) (drop at c.parts.buffer)
-    (omega (arith, length-drop at c.parts.buffer)) ∙ ap (λ (j : ℕ). j - at) same in
-    let all : 8 * c.parts.k + length rest / 2 ≡ length bytes / 2 = omega (arith, ended, long) in
-    last_block 2 8 at c.parts.k (length rest / 2) bytes c.parts.buffer c.turn_plain.new.buffer
-    (omega (arith, ended)) (omega arith) c.parts.invariant c.turn_plain.ensures
-    ∙ ap (λ (j : ℕ). turned_units 2 j bytes) all
+    last_part 2 8 _ _ _ _ refl c.parts-test.false c.parts.auto.k-end c.parts.invariant c.turn_plain.ensures

@@ -1,14 +1,11 @@
-use Rattle.std.proofs.Common.{◌≡◌, ◌++◌, ◌^◌, Ok}
+use Rattle.std.proofs.Common.{◌^◌}
 use Rattle.std.specs.Vec.Iter.{into_iter_items}
-use Rattle.tiff_base.specs.Answers.{◌>>=◌}
-use Rattle.tiff_ifd.specs.Fitted.{fitted_numbers}
+use Rattle.tiff_page.proofs.Fitted.{AreDone}
 use Rattle.tiff_page.proofs.read_page.fit_u8s.Given as goal
 
 abbrev pub invariant-loop-n : goal.invariant-loop-n
 invariant-loop-n l = record {
   can : goal.iterator-loop-n.can_next l.n-iterator;
   finite : goal.iterator-loop-n.is_finite l.n-iterator;
-  rest : fitted_numbers l.tag (2 ^ 8) l.fn.numbers.items
-      ≡ (fitted_numbers l.tag (2 ^ 8) (into_iter_items l.n-iterator)
-      >>= (λ ns. Ok (l.all.items ++ ns)));
+  rest : AreDone l.tag (2 ^ 8) l.fn.numbers.items (into_iter_items l.n-iterator) l.all.items;
 }

@@ -6,15 +6,14 @@ use Rattle.tiff_base.specs.Header.{Header}
 use Rattle.tiff_page.specs.PageView as view
 use Rattle.tiff_decode.proofs.Asked.{opened_page}
 use Rattle.tiff_decode.proofs.Opening.{begun_unread, begun_unpaged, begun_page}
+use Rattle.tiff_decode.proofs.Refusing.{fails_from}
 use Rattle.tiff_decode.proofs.decoder.Decoder.new.Goals as goal
 
 pub returns-in_err-header-clause-answer : goal.returns-in_err-header-clause-answer
 returns-in_err-header-clause-answer g c =
     let told =
-    begun_unread _ (FailsFrom g.R.Source.contents g.R.Source.failures c.args.source)
-    (g.R.Source.contents c.args.source).bytes (g.R.Source.failures c.args.source) c.in_err-header.field-0.0
-    (λ grew. record { last = c.read_first_directory.new.source; contents = c.in_err-header.ensures.kept.contents; grew = grew })
-    c.in_err-header.ensures.answer in search rules
+    begun_unread _ _ (g.R.Source.contents c.args.source).bytes (g.R.Source.failures c.args.source) c.in_err-header.field-0.0
+    (fails_from c.in_err-header.ensures.kept) c.in_err-header.ensures.answer in search rules
 
 pub returns-in_err-page-clause-answer : goal.returns-in_err-page-clause-answer
 returns-in_err-page-clause-answer g c =

@@ -1,17 +1,15 @@
 use Rattle.std.proofs.Common.{rules, ap, sym, ◌∙◌, Ok, None}
-use Rattle.tiff_base.specs.Answers.{FailsFrom}
 use Rattle.tiff_base.specs.Header.{Header}
 use Rattle.tiff_base.specs.lemmas.Contents.{same_bytes}
 use Rattle.tiff_decode.proofs.Opened.{opened_header, opened_unread}
+use Rattle.tiff_decode.proofs.Refusing.{fails_from}
 use Rattle.tiff_decode.proofs.decoder.Decoder.open.Goals as goal
 
 pub returns-in_err-header-clause-answer : goal.returns-in_err-header-clause-answer
 returns-in_err-header-clause-answer g c =
     let told =
-    opened_unread _ (FailsFrom g.R.Source.contents g.R.Source.failures c.args.source)
-    (g.R.Source.contents c.args.source).bytes (g.R.Source.failures c.args.source) c.in_err-header.field-0.0
-    (λ grew. record { last = c.read_header.new.source; contents = c.in_err-header.ensures.kept.contents; grew = grew })
-    c.in_err-header.ensures.answer in search rules
+    opened_unread _ _ (g.R.Source.contents c.args.source).bytes (g.R.Source.failures c.args.source) c.in_err-header.field-0.0
+    (fails_from c.in_err-header.ensures.kept) c.in_err-header.ensures.answer in search rules
 
 pub returns-clause-answer : goal.returns-clause-answer
 returns-clause-answer g c =

@@ -20,8 +20,5 @@ returns-in_err-layout-clause-asked g c =
 pub returns-in_err-layout-clause-follows : goal.returns-in_err-layout-clause-follows
 unfolding read_image_to_buffer
 returns-in_err-layout-clause-follows g c =
-    let s = c.self.inside in
-    let d = from_fields g.R.Source.contents g.R.Source.failures s.tags s.first s.standing.pointer s.standing.more s.page s.offset in
-    let answered = err_from_is_err_and c.from_residual.result c.from_residual.ensures.1 in
-    rw (answered.1, answered.2) (refused_here (λ x. read_image_to_buffer x) _ c.in_err-layout.field-0.0 d _ (g.R.Source.contents c.read_image_to_buffer.new.source) (g.R.Source.failures c.read_image_to_buffer.new.source) c.self.view_is refl
-    c.in_err-layout.ensures.kept.contents c.in_err-layout.ensures.kept.failures c.in_err-layout.ensures.kept.swallowed c.in_err-layout.ensures.answer)
+    refused_here _ _ c.in_err-layout.field-0.0 read_image_to_buffer _ _ _ (g.R.Source.contents c.read_image_to_buffer.new.source) (g.R.Source.failures c.read_image_to_buffer.new.source)
+    c.from_residual.ensures.1 c.self.view_is refl c.in_err-layout.ensures.kept.contents c.in_err-layout.ensures.kept.failures c.in_err-layout.ensures.kept.swallowed c.in_err-layout.ensures.answer

@@ -1,6 +1,6 @@
 use Rattle.std.proofs.Common.{Err, refl, sym, ◌∙◌}
 use Rattle.tiff_base.specs.lemmas.Contents.{same_bytes}
-use Rattle.tiff_decode.specs.Machine.{State, Decoding, from_fields}
+use Rattle.tiff_decode.specs.Machine.{State, from_fields}
 use Rattle.tiff_decode.specs.Outcome.{seek_to_image}
 use Rattle.tiff_decode.proofs.Asked.{none_asks, sought_entry, sought_past, sought_way}
 use Rattle.tiff_decode.specs.lemmas.ChainPosition.{none_found, seek_cut, seek_known, seek_past, along_on, stands_longer, stands_told, stays_refused, shown, told_same, unfailed}
@@ -47,11 +47,9 @@ pub returns-in-Ok-Some-clause-follows : goal.returns-in-Ok-Some-clause-follows
 returns-in-Ok-Some-clause-follows g c =
     let s = c.self.inside in
     let d = from_fields g.R.Source.contents g.R.Source.failures s.tags s.first s.standing.pointer s.standing.more s.page s.offset in
-    let mid : Decoding =
-    record d { bytes = (g.R.Source.contents c.offset_of.new.source).bytes; readable = (g.R.Source.contents c.offset_of.new.source).readable; failures = g.R.Source.failures c.offset_of.new.source } in
     let h = rw c.in-Ok-Some.field-0-is at c.in-Ok-Some.ensures.offset in
     shown (λ x. seek_to_image x c.args.ifd_index) c.enter_offset.result d _ _ c.self.view_is
-    (seek_known c.enter_offset.result d mid _ c.args.ifd_index c.in-Ok-Some.offset (h s.first c.self.invariant.begins)
+    (seek_known c.enter_offset.result d _ _ c.args.ifd_index c.in-Ok-Some.offset (h s.first c.self.invariant.begins)
     (told_same d _ _ c.offset_of.ensures.kept.contents c.in-Ok-Some.ensures.kept.swallowed) (c.enter_offset.ensures.follows s.first s.offset))
 
 pub returns-in-Ok-None-clause-follows : goal.returns-in-Ok-None-clause-follows

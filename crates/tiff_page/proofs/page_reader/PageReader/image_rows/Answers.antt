@@ -11,6 +11,10 @@ use Rattle.tiff_page.specs.lemmas.Filling.{row_is, stride_some}
 use Rattle.tiff_page.specs.lemmas.PositionLaws.{sides_of}
 use Rattle.tiff_page.proofs.page_reader.PageReader.image_rows.Goals as goal
 
+-- the bytes of the rows above, and those of the rows
+rows_split : (top count stride : ℕ) → (top + count) * stride ≡ top * stride + count * stride
+rows_split top count stride = omega arith
+
 pub overflow_add-end : goal.overflow_add-end
 overflow_add-end g c =
     let p = c.args.self.now.page.now in
@@ -23,25 +27,17 @@ overflow_add-end g c =
 pub overflow_mul-len : goal.overflow_mul-len
 overflow_mul-len g c =
     let part = c.args.part in
-    let split : (part.top + (part.to - part.from)) * part.layout.row_bytes
-    ≡ part.top * part.layout.row_bytes
-    + (part.to - part.from) * part.layout.row_bytes = omega arith in
-    omega (arith, c.requires.fits, split)
+    omega (arith, c.requires.fits, rows_split part.top (part.to - part.from) part.layout.row_bytes)
 
 pub overflow_mul-at : goal.overflow_mul-at
 overflow_mul-at g c =
     let part = c.args.part in
-    let split : (part.top + (part.to - part.from)) * part.layout.row_bytes
-    ≡ part.top * part.layout.row_bytes
-    + (part.to - part.from) * part.layout.row_bytes = omega arith in
-    omega (arith, c.requires.fits, split)
+    omega (arith, c.requires.fits, rows_split part.top (part.to - part.from) part.layout.row_bytes)
 
 pub place-requires : goal.place-requires
 place-requires g c =
     let part = c.args.part in
-    let split : (part.top + (part.to - part.from)) * part.layout.row_bytes
-    ≡ part.top * part.layout.row_bytes
-    + (part.to - part.from) * part.layout.row_bytes = omega arith in
+    let split = rows_split part.top (part.to - part.from) part.layout.row_bytes in
     let n = ap (λ (xs : List ℕ). length xs) c.deref.ensures.value in
     let room_len : length c.resize.new.self.items
     ≡ (part.to - part.from) * part.layout.row_bytes = search rules in
@@ -72,7 +68,7 @@ returns-then-uses_scratch-clause-ok g c =
     row_is (g.R.Source.contents c.args.source.now).bytes c.args.self.now.order
     (view.page p) c.args.self.now.limits.now (view.layout part.layout)
     (sides_of p) p.sampled p.has_bits c.requires.tiles.laid in
-    let split : (part.top + count) * stride ≡ at + count * stride = omega arith in
+    let split = rows_split part.top count stride in
     let room_len : length c.resize.new.self.items ≡ count * stride = search rules in
     let all : length c.tile_row_part.new.sink.bytes.items ≡ count * stride =
     omega (arith, c.in_ok-tile_row_part.ensures.ok.0, room_len) in

@@ -6,7 +6,7 @@ use Rattle.tiff_base.specs.declared.tags.Predictor.TheVariants.{Horizontal}
 use Rattle.tiff_value.specs.ColorType.{sample_number}
 use Rattle.tiff_value.specs.Differences.{stored_difference}
 use Rattle.tiff_value.specs.Written.{writer_after, IsCut}
-use Rattle.tiff_value.proofs.Bands.{bytes_of, band_next, band_cut, band_long, not_stopped, row_bytes}
+use Rattle.tiff_value.proofs.Bands.{bytes_of, band_next, band_cut, band_part, not_stopped, row_bytes}
 use Rattle.tiff_value.specs.lemmas.Put.{writer_none}
 use Rattle.tiff_value.proofs.encoder.writer.TiffWriter.write_row.Goals as goal
 
@@ -31,14 +31,9 @@ returns-in_err-write_raw g c =
     let mid = c.loop-at.self in
     let new = c.write_raw.new.self in
     let fresh = ap (λ w. w.fault) i.same ∙ i.fresh in
-    let part = c.put_part.ensures.part (record {
-      order = omega arith;
-      within = omega (arith, c.min.ensures, i.within, c.loop-at-test.true);
-      fills =
-          band_long c.loop-at.room c.loop-at.at c.min.result size c.from-width.result
-          (c.from-width.ensures ∙ c.type_and_len-kind.ensures.len) (omega (arith, c.min.ensures))
-          (c.loop-at.auto.room ∙ c.requires.room);
-    }) in
+    let part =
+    c.put_part.ensures.part (band_part (length c.args.row.now) c.loop-at.room c.loop-at.at c.min.result size c.from-width.result (omega (arith, c.min.ensures, i.within, c.loop-at-test.true))
+    (c.from-width.ensures ∙ c.type_and_len-kind.ensures.len) (omega (arith, c.min.ensures)) (c.loop-at.auto.room ∙ c.requires.room)) in
     let cut =
     subst (λ (xs : List ℕ). IsCut xs e mid new) part (not_stopped c.put_part.new.out e mid new fresh c.in_err-write_raw.ensures) in
     rw (answered.1, answered.2) (subst (λ (xs : List ℕ). IsCut xs e c.args.self.now new) (sym (row_bytes size (256 ^ size) c.args.stride numbers c.requires.stride.0 (omega (arith, c.requires.stride.1, long))))
@@ -52,14 +47,9 @@ loop-at-preserved g c =
     let numbers : List ℕ = map (sample_number size g.T.Sample.bits) c.args.row.now in
     let F = stored_difference Horizontal (256 ^ size) (length numbers) c.args.stride numbers in
     let i = c.loop-at.invariant in
-    let part = c.put_part.ensures.part (record {
-      order = omega arith;
-      within = omega (arith, c.min.ensures, i.within, c.loop-at-test.true);
-      fills =
-          band_long c.loop-at.room c.loop-at.at c.min.result size c.from-width.result
-          (c.from-width.ensures ∙ c.type_and_len-kind.ensures.len) (omega (arith, c.min.ensures))
-          (c.loop-at.auto.room ∙ c.requires.room);
-    }) in
+    let part =
+    c.put_part.ensures.part (band_part (length c.args.row.now) c.loop-at.room c.loop-at.at c.min.result size c.from-width.result (omega (arith, c.min.ensures, i.within, c.loop-at-test.true))
+    (c.from-width.ensures ∙ c.type_and_len-kind.ensures.len) (omega (arith, c.min.ensures)) (c.loop-at.auto.room ∙ c.requires.room)) in
     record {
       within = omega (arith, c.min.ensures, i.within, c.loop-at-test.true);
       offset = i.offset;
@@ -75,8 +65,7 @@ returns g c =
     let size = type_size g.T.TiffValue.value_type in
     let numbers : List ℕ = map (sample_number size g.T.Sample.bits) c.args.row.now in
     let F = stored_difference Horizontal (256 ^ size) (length numbers) c.args.stride numbers in
-    let long : length numbers ≡ length c.args.row.now =
-    length-map c.args.row.now (sample_number size g.T.Sample.bits) in
+    let long = length-map c.args.row.now (sample_number size g.T.Sample.bits) in
     let i = c.loop-at.invariant in
     let last : c.loop-at.at ≡ length numbers =
     omega (arith, long, i.within, c.loop-at-test.false) in
