@@ -457,13 +457,19 @@ entry_bytes_adds type bytes file =
     let value : FieldData = data_in type bytes in
     caused_adds (write_entry_bytes_cause file type bytes) (placed_field value) file (placed_adds value file)
 
+-- a call that only appends, and the field that is set to what it returns
+set_adds : (call : WriteCall Field) (d : OpenDirectory) (t : Tag) (file : FileState)
+    → Adds (call file) file
+    → Adds ((call >>= (λ field. gives (with_field d t field))) file) file
+set_adds call d t file a =
+    bind_adds call (λ field. gives (with_field d t field)) file a
+    (λ field _. answers_adding (Ok (with_field d t field)) (call file).next)
+
 -- `write_tag` only appends
 pub tag_adds : (d : OpenDirectory) (t : Tag) (value : Result FieldData TiffError) (file : FileState)
     → Adds (write_tag d t value file) file
 unfolding write_tag
-tag_adds d t value file =
-    bind_adds (write_entry value) (λ field. gives (with_field d t field)) file (entry_adds value file)
-    (λ field _. answers_adding (Ok (with_field d t field)) (write_entry value file).next)
+tag_adds d t value file = set_adds (write_entry value) d t file (entry_adds value file)
 
 -- `write_entry_buf` appends
 pub entry_buf_adds : (b : BufferRecord) (file : FileState) → Adds (write_entry_buf b file) file
@@ -476,9 +482,7 @@ entry_buf_adds b file =
 pub tag_buf_adds : (d : OpenDirectory) (t : Tag) (b : BufferRecord) (file : FileState)
     → Adds (write_tag_buf d t b file) file
 unfolding write_tag_buf
-tag_buf_adds d t b file =
-    bind_adds (write_entry_buf b) (λ field. gives (with_field d t field)) file (entry_buf_adds b file)
-    (λ field _. answers_adding (Ok (with_field d t field)) (write_entry_buf b file).next)
+tag_buf_adds d t b file = set_adds (write_entry_buf b) d t file (entry_buf_adds b file)
 
 -- `write_data` appends
 pub data_adds : (value : Result FieldData TiffError) (file : FileState)

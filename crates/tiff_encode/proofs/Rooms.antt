@@ -16,7 +16,7 @@ use Rattle.tiff_encode.specs.Calls.{with_field, without_field}
 use Rattle.tiff_encode.specs.Ends.{EndsAsDefined, Ends}
 use Rattle.tiff_encode.specs.Leaves.{Leaves}
 use Rattle.tiff_encode.specs.Machine.{FileState, OpenDirectory}
-use Rattle.tiff_value.specs.Model.{Model}
+use Rattle.tiff_value.specs.Model.{Model, FileContains}
 use Rattle.tiff_encode.specs.Rooms.{blank_field, with_room, IsRoomFor, is_made, IsSettled, StaysUnlessCut, IsInRoom}
 use Rattle.tiff_encode.proofs.DirectoryMoves.{tag_kept}
 use Rattle.tiff_encode.specs.GivenValues.{Value, entry_of, tag_of}
@@ -137,7 +137,7 @@ module _ {S A : Type 0} (opened : S → OpenDirectory) (having : S → OpenDirec
     pub rest : next ≡ having s (opened next)
     pub answer : Ends (λ (_ : A). opened next) (tag_of (opened s) t v old) r old new
     pub unwritten : OnErr r (StaysUnlessCut old new)
-    pub leaves : (m : Model) → Leaves (entry_of v old) placed old new m
+    pub leaves : (m : Model) → FileContains old.kind old.bytes m
         → Leaves (tag_of (opened s) t v old) r old new m
 
   pub sets_tag : (v : Value) (r : Result A TiffError) (room : Room) (made : Bool) (roomed : S)
@@ -145,11 +145,12 @@ module _ {S A : Type 0} (opened : S → OpenDirectory) (having : S → OpenDirec
       → roomed ≡ having s (with_room (opened s) t room) → IsRoomFor t (opened s) room
       → made ≡ is_made room → IsInRoom made old new placed
       → Ends (λ (f : Field). f) (entry_of v old) placed old new
+      → ((m : Model) → FileContains old.kind old.bytes m → Leaves (entry_of v old) placed old new m)
       → ((s : S) → roomed ≡ having s (with_room (opened s) t room) → IsRoomFor t (opened s) room
       → IfOk placed (λ _. is_made room ≡ true)
       → IsSettled (λ field. having s (with_field (opened s) t field)) s placed r next)
       → SetsTag v r old new
-  sets_tag v r room made roomed old new at is m in_room ends settles =
+  sets_tag v r room made roomed old new at is m in_room ends leaves settles =
       let settled : Settled r =
       settles s at is (room_kept room made placed old new m in_room) in
       record {
@@ -157,5 +158,5 @@ module _ {S A : Type 0} (opened : S → OpenDirectory) (having : S → OpenDirec
         rest = settled_rest r settled;
         answer = settled_ends v old new ends r settled;
         unwritten = settled_unwritten r made old new in_room settled;
-        leaves = λ n leaves. settled_leaves v old new ends r n leaves settled;
+        leaves = λ n s. settled_leaves v old new ends r n (leaves n s) settled;
       }

@@ -1,4 +1,4 @@
--- The replies to the steps of an image (this project's).
+-- The replies to the steps of a job (this project's).
 use Rattle.std.specs.Prelude.{◌≡◌, ℕ, true, List, Result, Ok, Err}
 use Rattle.tiff_base.specs.declared.error.TiffError.{TiffError}
 use Rattle.tiff_base.specs.declared.tags.ResolutionUnit.{ResolutionUnit}
@@ -13,6 +13,12 @@ use Rattle.tiff_encode.specs.Stepping.{DrawMoves}
 abbrev pub reply_to : Result (Unit {0}) TiffError → Result StepReply TiffError
 reply_to (Ok x) = Ok reply.Nothing
 reply_to (Err e) = Err e
+
+-- the reply to a call that returns a value
+abbrev pub reply_by : {A : Type 0} → (A → StepReply) → Result A TiffError
+    → Result StepReply TiffError
+reply_by view (Ok x) = Ok (view x)
+reply_by view (Err e) = Err e
 
 -- `write_strip` and `write_chunk` of samples, each of which is the lowest bits of a number
 abbrev pub StripDraws : OpenImage → List ℕ → Result StepReply TiffError → FileState → FileState

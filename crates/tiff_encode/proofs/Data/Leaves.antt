@@ -7,8 +7,8 @@ use Rattle.tiff_base.specs.Field.{AreEntries}
 use Rattle.tiff_base.specs.Number.{le}
 use Rattle.tiff_base.specs.SourceAndSink.{put}
 use Rattle.tiff_value.specs.FileBytes.{offset_len}
-use Rattle.tiff_value.specs.Model.{Model, IsLink, FileContains, with_link}
-use Rattle.tiff_value.specs.WriteOps.{Linked, bytes_after, all_appended, model_after}
+use Rattle.tiff_value.specs.Model.{Model, IsLink, FileContains}
+use Rattle.tiff_value.specs.WriteOps.{Linked, bytes_after, all_appended}
 use Rattle.tiff_value.specs.FileLaws.{AreAppending, OpsFit}
 use Rattle.tiff_encode.specs.Machine.{FileState, OpenImage, WriteOutcome}
 use Rattle.tiff_encode.specs.Chunks.{parts_left}
@@ -20,7 +20,7 @@ use Rattle.tiff_encode.specs.Stored.{AreStored}
 use Rattle.tiff_encode.specs.Open.{model_by}
 use Rattle.tiff_encode.specs.ImageData.{StopsWithin, WritesDataBy, WritesImageData, IsShortFile}
 use Rattle.tiff_base.specs.lemmas.Slices.{length_put, length-le}
-use Rattle.tiff_value.specs.lemmas.File.WriteOps.{bytes_joined, ops_append, ops_stand, ops_torn}
+use Rattle.tiff_value.specs.lemmas.File.WriteOps.{bytes_joined, ops_append, ops_stand}
 use Rattle.tiff_encode.proofs.Leaving.{ok_err, count_last, appending, begun_leaves, torn_as}
 use Rattle.tiff_encode.proofs.Joining.{ends_torn}
 use Rattle.tiff_encode.proofs.Image.FitsCalls.{IsDone, Fits}

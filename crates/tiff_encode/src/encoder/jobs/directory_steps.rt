@@ -3,6 +3,7 @@
 ghost use Rattle.std.specs.Prelude.{◌≡◌, ◌+◌, ◌++◌, ◌∷◌, [], ◌<◌, ◌≤◌, length, vec_len, vec_capacity, OnErr};
 ghost use Rattle.tiff_encode.specs.Ends.{Ends};
 ghost use Rattle.tiff_encode.specs.GivenValues.{tag_of};
+ghost use Rattle.tiff_encode.specs.ImageStepping.{reply_to, reply_by};
 ghost use Rattle.tiff_encode.specs.JobValues.{given_in};
 ghost use Rattle.tiff_encode.specs.Jobs.{AllStepped, DirectoryStepped};
 ghost use Rattle.tiff_encode.specs.Leaves.{Leaves};
@@ -13,9 +14,32 @@ use crate::encoder::directory::encoder::DirectoryEncoder;
 use crate::encoder::directory::state::{DirectoryState, HasDirectory};
 use crate::encoder::kind::TiffKind;
 use crate::encoder::script::{DirectoryStep, JobField, StepReply};
+use tiff_base::directory::Entry;
 use tiff_base::error::TiffResult;
 use tiff_base::io::Sink;
 use tiff_base::tags::Tag;
+
+// Returns the reply to a step whose call returns `()`.
+pub(crate) fn replied(answer: TiffResult<()>) -> TiffResult<StepReply>
+    ensures { result ≡ reply_to answer }
+{
+    answer?;
+    Ok(StepReply::Nothing)
+}
+
+// Returns the reply to a step whose call returns an offset.
+fn numbered(offset: TiffResult<u64>) -> TiffResult<StepReply>
+    ensures { result ≡ reply_by StepReply.Number offset }
+{
+    Ok(StepReply::Number(offset?))
+}
+
+// Returns the reply to a step whose call returns an entry.
+fn written(entry: TiffResult<Entry>) -> TiffResult<StepReply>
+    ensures { result ≡ reply_by StepReply.Written entry }
+{
+    Ok(StepReply::Written(entry?))
+}
 
 impl<'a, W: Sink, K: TiffKind, D: HasDirectory> DirectoryEncoder<'a, W, K, D> {
     // `write_tag` of a value of a job, or `write_tag_buf` of a buffer.
@@ -44,37 +68,23 @@ impl<'a, W: Sink, K: TiffKind, D: HasDirectory> DirectoryEncoder<'a, W, K, D> {
     {
         match step {
             DirectoryStep::WriteTag(tag, value) => {
-                self.write_job_tag(*tag, JobField::Value(value))?;
-                Ok(StepReply::Nothing)
+                replied(self.write_job_tag(*tag, JobField::Value(value)))
             }
             DirectoryStep::WriteTagBuf(tag, buffer) => {
-                self.write_job_tag(*tag, JobField::Buffer(buffer))?;
-                Ok(StepReply::Nothing)
+                replied(self.write_job_tag(*tag, JobField::Buffer(buffer)))
             }
-            DirectoryStep::WriteData(value) => {
-                let offset = self.encoder.append_job_value(value)?;
-                Ok(StepReply::Number(offset))
-            }
-            DirectoryStep::WriteDataBuf(buffer) => {
-                let offset = self.encoder.append_job_buffer(buffer)?;
-                Ok(StepReply::Number(offset))
-            }
+            DirectoryStep::WriteData(value) => numbered(self.encoder.append_job_value(value)),
+            DirectoryStep::WriteDataBuf(buffer) => numbered(self.encoder.append_job_buffer(buffer)),
             DirectoryStep::WriteEntry(value) => {
-                let entry = self.encoder.place_job_value(value, true)?;
-                Ok(StepReply::Written(entry))
+                written(self.encoder.place_job_value(value, true))
             }
             DirectoryStep::WriteEntryBuf(buffer) => {
-                let entry = self.encoder.place_job_buffer(buffer, true)?;
-                Ok(StepReply::Written(entry))
+                written(self.encoder.place_job_buffer(buffer, true))
             }
             DirectoryStep::WriteEntryBytes(field_type, bytes) => {
-                let entry = self.write_entry_bytes(*field_type, bytes)?;
-                Ok(StepReply::Written(entry))
+                written(self.write_entry_bytes(*field_type, bytes))
             }
-            DirectoryStep::ExtendFrom(directory) => {
-                self.extend_from(directory)?;
-                Ok(StepReply::Nothing)
-            }
+            DirectoryStep::ExtendFrom(directory) => replied(self.extend_from(directory)),
         }
     }
 }

@@ -3,13 +3,14 @@
 ghost use Rattle.std.specs.Prelude.{◌≡◌, ℕ, ◌-◌, ◌^◌, ◌<◌, ◌≤◌, List, [], length, vec_capacity};
 ghost use Rattle.tiff_base.specs.Types.{type_size};
 ghost use Rattle.tiff_encode.specs.Given.{given_numbers, IsChunkStorable};
-ghost use Rattle.tiff_encode.specs.ImageStepping.{ChunkDraws, ResolutionDraws, StripDraws, reply_to};
+ghost use Rattle.tiff_encode.specs.ImageStepping.{ChunkDraws, ResolutionDraws, StripDraws};
 ghost use Rattle.tiff_encode.specs.JobValues.{cut_to};
 ghost use Rattle.tiff_encode.specs.Stepping.{KeepsImage, StepsDraw};
 
 use crate::encoder::directory::encoder::DirectoryEncoder;
 use crate::encoder::image::chunks::ImageSamples;
 use crate::encoder::image::state::ImageState;
+use crate::encoder::jobs::directory_steps::replied;
 use crate::encoder::kind::TiffKind;
 use crate::encoder::script::{ImageStep, JobSamples, StepReply};
 use tiff_base::error::TiffResult;
@@ -17,14 +18,6 @@ use tiff_base::io::Sink;
 use tiff_base::tags::ResolutionUnit;
 use tiff_value::encoder::horizontal_predictor::Sample;
 use tiff_value::encoder::tiff_value::Rational;
-
-// Returns the reply to a step whose call returns `()`.
-fn replied(answer: TiffResult<()>) -> TiffResult<StepReply>
-    ensures { result ≡ reply_to answer }
-{
-    answer?;
-    Ok(StepReply::Nothing)
-}
 
 // Returns a copy of a fraction.
 fn copied(value: &Rational) -> Rational

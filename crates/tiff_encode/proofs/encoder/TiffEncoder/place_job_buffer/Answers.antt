@@ -17,7 +17,8 @@ returns-clause-leaves g c m s =
 pub returns-in_err-entry-clause-leaves : goal.returns-in_err-entry-clause-leaves
 returns-in_err-entry-clause-leaves g c m s =
     let old = c.args.self.now in
-    let told =
-    failed_leaves _ c.in_err-entry.field-0.0 old c.place_ordered.new.self m (entry_buf_adds (buffer_in c.args.buffer.now) old)
-    (rw c.deref.ensures.value at c.in_err-entry.ensures.answer) s in
-    search rules
+    search (
+      rules,
+      failed_leaves _ c.in_err-entry.field-0.0 old c.place_ordered.new.self m (entry_buf_adds (buffer_in c.args.buffer.now) old)
+          (rw c.deref.ensures.value at c.in_err-entry.ensures.answer) s,
+    )

@@ -5,15 +5,15 @@ use Rattle.tiff_encode.proofs.encoder.TiffEncoder.set_resolution_unit.Goals as g
 
 pub returns-in_err-check_resolution_unit-clause-answer : goal.returns-in_err-check_resolution_unit-clause-answer
 returns-in_err-check_resolution_unit-clause-answer g c =
-    let told =
-    set_refused (Measure c.args.unit) c.args.image.now c.args.self.now c.in_err-check_resolution_unit.field-0.0 c.in_err-check_resolution_unit.ensures in search rules
+    search (rules, set_refused (Measure c.args.unit) c.args.image.now c.args.self.now c.in_err-check_resolution_unit.field-0.0 c.in_err-check_resolution_unit.ensures)
 
 pub returns-in_err-set_tag-clause-answer : goal.returns-in_err-set_tag-clause-answer
 returns-in_err-set_tag-clause-answer g c =
-    let told =
-    one_fails (Measure c.args.unit) c.args.image.now c.args.self.now c.in_err-set_tag.field-0.0 c.set_tag.new.self refl
-    c.in_ok-check_resolution_unit.ensures c.image.view_is c.in_err-set_tag.ensures.answer in
-    search rules
+    search (
+      rules,
+      one_fails (Measure c.args.unit) c.args.image.now c.args.self.now c.in_err-set_tag.field-0.0 c.set_tag.new.self refl
+          c.in_ok-check_resolution_unit.ensures c.image.view_is c.in_err-set_tag.ensures.answer,
+    )
 
 pub returns-clause-answer : goal.returns-clause-answer
 returns-clause-answer g c =

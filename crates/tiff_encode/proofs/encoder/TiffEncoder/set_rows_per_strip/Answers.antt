@@ -6,8 +6,7 @@ use Rattle.tiff_encode.proofs.encoder.TiffEncoder.set_rows_per_strip.Goals as go
 
 pub returns-in_err-check_rows_per_strip-clause-answer : goal.returns-in_err-check_rows_per_strip-clause-answer
 returns-in_err-check_rows_per_strip-clause-answer g c =
-    let told =
-    set_refused (Rows c.args.rows) c.args.image.now c.args.self.now c.in_err-check_rows_per_strip.field-0.0 c.in_err-check_rows_per_strip.ensures in search rules
+    search (rules, set_refused (Rows c.args.rows) c.args.image.now c.args.self.now c.in_err-check_rows_per_strip.field-0.0 c.in_err-check_rows_per_strip.ensures)
 
 pub returns-in_err-set_tag-clause-answer : goal.returns-in_err-set_tag-clause-answer
 returns-in_err-set_tag-clause-answer g c =

@@ -5,15 +5,15 @@ use Rattle.tiff_encode.proofs.encoder.TiffEncoder.set_y_resolution.Goals as goal
 
 pub returns-in_err-check_one_resolution-clause-answer : goal.returns-in_err-check_one_resolution-clause-answer
 returns-in_err-check_one_resolution-clause-answer g c =
-    let told =
-    set_refused (Down (c.args.value.n, c.args.value.d)) c.args.image.now c.args.self.now c.in_err-check_one_resolution.field-0.0 c.in_err-check_one_resolution.ensures in search rules
+    search (rules, set_refused (Down (c.args.value.n, c.args.value.d)) c.args.image.now c.args.self.now c.in_err-check_one_resolution.field-0.0 c.in_err-check_one_resolution.ensures)
 
 pub returns-in_err-set_tag-clause-answer : goal.returns-in_err-set_tag-clause-answer
 returns-in_err-set_tag-clause-answer g c =
-    let told =
-    one_fails (Down (c.args.value.n, c.args.value.d)) c.args.image.now c.args.self.now c.in_err-set_tag.field-0.0 c.set_tag.new.self refl
-    c.in_ok-check_one_resolution.ensures c.image.view_is c.in_err-set_tag.ensures.answer in
-    search rules
+    search (
+      rules,
+      one_fails (Down (c.args.value.n, c.args.value.d)) c.args.image.now c.args.self.now c.in_err-set_tag.field-0.0 c.set_tag.new.self refl
+          c.in_ok-check_one_resolution.ensures c.image.view_is c.in_err-set_tag.ensures.answer,
+    )
 
 pub returns-clause-answer : goal.returns-clause-answer
 returns-clause-answer g c =

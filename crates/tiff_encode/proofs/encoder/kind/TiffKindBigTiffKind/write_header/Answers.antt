@@ -5,9 +5,7 @@ use Rattle.tiff_encode.proofs.encoder.kind.TiffKindBigTiffKind.write_header.Goal
 
 pub returns-in_err-write_bigtiff_header : goal.returns-in_err-write_bigtiff_header
 returns-in_err-write_bigtiff_header g c =
-    let told =
-    mark_fails Big c.args.writer.now c.write_bigtiff_header.new.writer c.in_err-write_bigtiff_header.field-0.0 c.in_err-write_bigtiff_header.ensures in
-    search rules
+    search (rules, mark_fails Big c.args.writer.now c.write_bigtiff_header.new.writer c.in_err-write_bigtiff_header.field-0.0 c.in_err-write_bigtiff_header.ensures)
 
 pub returns : goal.returns
 returns g c =
@@ -15,6 +13,4 @@ returns g c =
 
 pub returns-in_err-write_u64 : goal.returns-in_err-write_u64
 returns-in_err-write_u64 g c =
-    let told =
-    link_fails Big c.args.writer.now c.write_bigtiff_header.new.writer c.write_u64.new.self c.in_err-write_u64.field-0.0 c.in_ok-write_bigtiff_header.ensures.0 c.in_ok-write_bigtiff_header.ensures.1 c.in_err-write_u64.ensures in
-    search rules
+    search (rules, link_fails Big c.args.writer.now c.write_bigtiff_header.new.writer c.write_u64.new.self c.in_err-write_u64.field-0.0 c.in_ok-write_bigtiff_header.ensures.0 c.in_ok-write_bigtiff_header.ensures.1 c.in_err-write_u64.ensures)

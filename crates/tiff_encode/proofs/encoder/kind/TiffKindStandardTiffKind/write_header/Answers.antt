@@ -5,9 +5,7 @@ use Rattle.tiff_encode.proofs.encoder.kind.TiffKindStandardTiffKind.write_header
 
 pub returns-in_err-write_tiff_header : goal.returns-in_err-write_tiff_header
 returns-in_err-write_tiff_header g c =
-    let told =
-    mark_fails Classic c.args.writer.now c.write_tiff_header.new.writer c.in_err-write_tiff_header.field-0.0 c.in_err-write_tiff_header.ensures in
-    search rules
+    search (rules, mark_fails Classic c.args.writer.now c.write_tiff_header.new.writer c.in_err-write_tiff_header.field-0.0 c.in_err-write_tiff_header.ensures)
 
 pub returns : goal.returns
 returns g c =
@@ -15,6 +13,4 @@ returns g c =
 
 pub returns-in_err-write_u32 : goal.returns-in_err-write_u32
 returns-in_err-write_u32 g c =
-    let told =
-    link_fails Classic c.args.writer.now c.write_tiff_header.new.writer c.write_u32.new.self c.in_err-write_u32.field-0.0 c.in_ok-write_tiff_header.ensures.0 c.in_ok-write_tiff_header.ensures.1 c.in_err-write_u32.ensures in
-    search rules
+    search (rules, link_fails Classic c.args.writer.now c.write_tiff_header.new.writer c.write_u32.new.self c.in_err-write_u32.field-0.0 c.in_ok-write_tiff_header.ensures.0 c.in_ok-write_tiff_header.ensures.1 c.in_err-write_u32.ensures)

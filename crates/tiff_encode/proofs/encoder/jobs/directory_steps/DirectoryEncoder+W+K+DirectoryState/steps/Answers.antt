@@ -25,10 +25,6 @@ loop-step-init g c =
           (λ s. subst (λ rs. P rs s s) (sym c.requires.none) (all_none DirectoryStepped s d));
     }
 
-pub push_reserved-requires : goal.push_reserved-requires
-push_reserved-requires g c =
-    omega (arith, c.loop-step.invariant.count, c.loop-step.invariant.room, c.requires.room, c.loop-step-test.true)
-
 pub loop-step-preserved : goal.loop-step-preserved
 loop-step-preserved g c =
     let i = c.loop-step.invariant in

@@ -20,9 +20,7 @@ returns-in-Some-clause-draws g c =
 
 pub returns-in_err-samples-clause-draws : goal.returns-in_err-samples-clause-draws
 returns-in_err-samples-clause-draws g c =
-    let told =
-    unfound_draws write_chunk (λ file i n. write_chunk_cause file i n 0) c.args.self.now.state c.args.numbers.now c.in_err-samples.field-0.0 c.args.self.now.encoder.now c.in_err-samples.ensures in
-    search rules
+    search (rules, unfound_draws write_chunk (λ file i n. write_chunk_cause file i n 0) c.args.self.now.state c.args.numbers.now c.in_err-samples.field-0.0 c.args.self.now.encoder.now c.in_err-samples.ensures)
 
 pub returns-clause-draws : goal.returns-clause-draws
 returns-clause-draws g c =
