@@ -1,5 +1,5 @@
 use Rattle.std.proofs.Common.{◌≡◌, ◌≢◌, ℕ, ◌+◌, ◌<◌, get_or}
-use Rattle.tiff_value.proofs.encoder.compression.packer.literal_len.Given as goal
+use Rattle.tiff_value.proofs.encoder.compression.literal_len.Given as goal
 
 -- no three equal bytes begin before `count`
 abbrev pub invariant-loop-count : goal.invariant-loop-count

@@ -1,7 +1,7 @@
 use Rattle.std.proofs.Common.{ℕ, List, ◌<◌, ◌%◌, length, ap, ◌∙◌, subst}
 use Rattle.std.specs.Slice.Iter.{chunks_exact_rest, chunks_exact_size}
 use Rattle.tiff_value.specs.lemmas.PackedRows.{no_rows, row_next, all_rows, none_left, whole_left}
-use Rattle.tiff_value.proofs.encoder.compression.packer.push_packed_rows.Goals as goal
+use Rattle.tiff_value.proofs.encoder.compression.push_packed_rows.Goals as goal
 
 pub loop-one-init : goal.loop-one-init
 loop-one-init c =

@@ -1,5 +1,5 @@
 use Rattle.std.proofs.Common.{◌-◌, ◌≡◌, ◌<◌, ◌≤◌, length, take, get_or, replicate}
-use Rattle.tiff_value.proofs.encoder.compression.packer.run_len.Given as goal
+use Rattle.tiff_value.proofs.encoder.compression.run_len.Given as goal
 
 abbrev pub invariant-loop-count : goal.invariant-loop-count
 invariant-loop-count l = record {

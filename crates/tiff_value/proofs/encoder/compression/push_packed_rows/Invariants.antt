@@ -1,7 +1,7 @@
 use Rattle.std.proofs.Common.{◌≡◌, ◌%◌, length}
 use Rattle.std.specs.Slice.Iter.{chunks_exact_rest, chunks_exact_size}
 use Rattle.tiff_value.specs.lemmas.PackedRows.{HasRows}
-use Rattle.tiff_value.proofs.encoder.compression.packer.push_packed_rows.Given as goal
+use Rattle.tiff_value.proofs.encoder.compression.push_packed_rows.Given as goal
 
 abbrev pub invariant-loop-one : goal.invariant-loop-one
 invariant-loop-one l = record {

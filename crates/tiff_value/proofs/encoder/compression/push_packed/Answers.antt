@@ -2,7 +2,7 @@ use Rattle.std.proofs.Common.{ℕ, List, subst}
 use Rattle.std.proofs.lemmas.List.{take_rest}
 use Rattle.tiff_value.specs.Packing.{PacksAtEnd}
 use Rattle.tiff_value.specs.lemmas.Packing.{no_block, block_next, all_packed}
-use Rattle.tiff_value.proofs.encoder.compression.packer.push_packed.Goals as goal
+use Rattle.tiff_value.proofs.encoder.compression.push_packed.Goals as goal
 
 pub loop-at-init : goal.loop-at-init
 loop-at-init c = no_block _ _

@@ -1,5 +1,5 @@
 use Rattle.tiff_value.specs.lemmas.Packing.{block_run, block_literal, no_two}
-use Rattle.tiff_value.proofs.encoder.compression.packer.pack_block.Goals as goal
+use Rattle.tiff_value.proofs.encoder.compression.pack_block.Goals as goal
 
 pub returns-then-run-gt1 : goal.returns-then-run-gt1
 returns-then-run-gt1 c =
