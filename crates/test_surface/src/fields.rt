@@ -22,16 +22,13 @@ const PAGE: [u8; 75] = [
     0x80, // the sample
 ];
 
-// A directory behind that page, to which no other links: two pixels of one bit.
-const SHOWN: [u8; 66] = [
-    0x05, 0x00, // directory of 5 entries
-    0x00, 0x01, 0x03, 0x00, 0x01, 0x00, 0x00, 0x00, 0x02, 0x00, 0x00, 0x00, // ImageWidth
-    0x01, 0x01, 0x03, 0x00, 0x01, 0x00, 0x00, 0x00, 0x01, 0x00, 0x00, 0x00, // ImageLength
-    0x06, 0x01, 0x03, 0x00, 0x01, 0x00, 0x00, 0x00, 0x01, 0x00, 0x00, 0x00, // PhotometricInterpretation
-    0x11, 0x01, 0x03, 0x00, 0x01, 0x00, 0x00, 0x00, 0x4a, 0x00, 0x00, 0x00, // StripOffsets
-    0x17, 0x01, 0x03, 0x00, 0x01, 0x00, 0x00, 0x00, 0x01, 0x00, 0x00, 0x00, // StripByteCounts
-    0x00, 0x00, 0x00, 0x00, // link
-];
+// The directory of that page, but two pixels wide: no other directory links to it.
+fn wide_directory() -> [u8; 66] {
+    let mut bytes = [0u8; 66];
+    bytes.copy_from_slice(&PAGE[8..74]);
+    bytes[10] = 2;
+    bytes
+}
 
 const BYTES: Tag = Tag::Unknown(65001);
 
@@ -125,7 +122,7 @@ fn add_page_lines(report: &mut Report) -> TiffResult<()> {
 pub fn add_lines(report: &mut Report) -> TiffResult<()> {
     add_page_lines(report)?;
     let mut file = Vec::from_slice(report.alloc(), &PAGE)?;
-    file.extend_from_slice(&SHOWN)?;
+    file.extend_from_slice(&wide_directory())?;
     let mut decoder = Decoder::new(report.alloc(), MemorySource::new(file))?;
     add_shown(report, &mut decoder)
 }
