@@ -10,16 +10,6 @@ use Rattle.tiff_encode.specs.Causes.{is_past, is_past_chunks}
 use Rattle.tiff_encode.specs.Ends.{EndsAsDefined, AppendFailed}
 use Rattle.tiff_encode.specs.Stored.{IsChunkStored}
 
--- the error of a chunk that doesn't depend on the compressed bytes, at the end of a file of a
--- length
-abbrev pub chunk_test : FileKind → ℕ → OpenImage → ℕ → Option TiffError
-chunk_test kind end i count =
-    if is_past_chunks i then Some IntSizeError
-    else if not (is_left i) || not (count == next_chunk_sample_count i)
-    then Some (IoError InvalidData)
-    else if is_past kind end then Some IntSizeError
-    else None
-
 -- A chunk that is stored as given bytes has the specified outcome; or it is refused, or the sink
 -- fails; or memory is out, and nothing is done. After an error the image doesn't change.
 abbrev pub AppendsChunk : {A : Type 0} → WriteOutcome OpenImage → OpenImage → Result A TiffError

@@ -8,8 +8,7 @@ ghost use Rattle.tiff_encode.specs.Causes.{end_of, write_chunk_cause, write_stri
 ghost use Rattle.tiff_page.specs.Pixels.{numbers_in, stored_samples};
 ghost use Rattle.tiff_encode.specs.Chunks.{image_page, next_chunk_sample_count, row_samples};
 ghost use Rattle.tiff_encode.specs.Given.{given_count, given_numbers, IsChunkStorable, StoresBytes};
-ghost use Rattle.tiff_encode.specs.Placing.{Checks};
-ghost use Rattle.tiff_encode.specs.Storing.{chunk_test, AppendsChunk, StoresChunk, WritesStoredChunk};
+ghost use Rattle.tiff_encode.specs.Storing.{AppendsChunk, StoresChunk, WritesStoredChunk};
 ghost use Rattle.tiff_encode.specs.Machine.{compression_method};
 ghost use Rattle.tiff_encode.specs.Stored.{IsChunkStored};
 ghost use Rattle.tiff_base.specs.SourceAndSink.{AreOctets};
@@ -29,7 +28,7 @@ use std::mem;
 use tiff_base::color::ChunkType;
 use tiff_base::error::{TiffError, TiffResult, UsageError};
 use tiff_base::io::{IoKind, Sink};
-use tiff_base::tags::{FileKind, Predictor};
+use tiff_base::tags::Predictor;
 use tiff_value::encoder::chunk::{SampleRows, pack_chunk, pack_chunk_rows, push_chunk};
 use tiff_value::encoder::horizontal_predictor::Sample;
 use tiff_value::encoder::tiff_value::TiffValue;
@@ -208,23 +207,6 @@ impl<T: Sample> ImageState<T> {
             Compression::Packbits | Compression::PackbitsRows => None,
         }
     }
-
-    // Checks whether a chunk of `count` samples can be written at the end of a file of `end` bytes.
-    // Returns the first error that doesn't depend on the compressed bytes.
-    fn check_chunk(&self, kind: FileKind, end: u64, count: usize) -> TiffResult<()>
-        ensures { Checks (chunk_test kind end self.now count) result }
-    {
-        if self.is_past_chunks() {
-            return Err(TiffError::IntSizeError);
-        }
-        if !self.is_left() || count as u64 != self.next_samples() {
-            return Err(TiffError::IoError(IoKind::InvalidData));
-        }
-        if is_past_offset(kind, end) {
-            return Err(TiffError::IntSizeError);
-        }
-        Ok(())
-    }
 }
 
 impl<W: Sink, K: TiffKind> TiffEncoder<W, K> {
@@ -244,8 +226,14 @@ impl<W: Sink, K: TiffKind> TiffEncoder<W, K> {
             (λ e. write_chunk_cause self.now image.now count stored ≡ Some e) }
     {
         let end = self.end()?;
-        image.check_chunk(self.file_kind(), end, count)?;
-        if is_past_offset(self.file_kind(), stored as u64) {
+        let kind = self.file_kind();
+        if image.is_past_chunks() {
+            return Err(TiffError::IntSizeError);
+        }
+        if !image.is_left() || count as u64 != image.next_samples() {
+            return Err(TiffError::IoError(IoKind::InvalidData));
+        }
+        if is_past_offset(kind, end) || is_past_offset(kind, stored as u64) {
             return Err(TiffError::IntSizeError);
         }
         Ok(end)
