@@ -45,39 +45,6 @@ pub first_fields : {now given : List (Tag × FieldData)} {i j : OpenImage} → n
     → now ≡ fields_of (first_tags j)
 first_fields lent made same = lent ∙ made ∙ ap (λ i. fields_of (first_tags i)) same
 
--- the checks of an image return the error that refuses `new_image`
-pub begins_uncaused : (file : FileState) (color : ColorTypeRecord) (kind : FileKind) (end : ℕ)
-    (predictor : Predictor)
-    (unpredicted : Bool) (width height : ℕ) (cause : Option TiffError) → file.fault ≡ None
-    → kind ≡ file.kind → end ≡ end_of file
-    → predictor ≡ file.predictor → unpredicted ≡ is_unpredicted color
-    → image_cause kind end predictor unpredicted width height ≡ cause
-    → new_image_cause file color width height ≡ cause
-unfolding new_image_cause
-begins_uncaused file color kind end predictor unpredicted width height cause f k e p s c =
-    fresh_cause file.fault _ f ∙ sym (λ i. image_cause (k i) (e i) (p i) (s i) width height) ∙ c
-
-none_by : (b : Bool) (e : TiffError) (cause : Option TiffError) → cond b (Some e) cause ≡ None
-    → b ≡ false
-none_by true e cause h = absurd cc
-none_by false e cause h = refl
-
-either_false : (a b : Bool) → (a || b) ≡ false → (a ≡ false) × (b ≡ false)
-either_false true b h = absurd cc
-either_false false b h = (refl, h)
-
-some_by : (n : ℕ) → (n == 0) ≡ false → 0 < n
-some_by zero h = absurd cc
-some_by (suc n) h = omega arith
-
--- an image that nothing refuses has sides
-pub sides_by : (kind : FileKind) (end : ℕ) (predictor : Predictor) (unpredicted : Bool) (width height : ℕ)
-    → image_cause kind end predictor unpredicted width height ≡ None → (0 < width) × (0 < height)
-unfolding image_cause
-sides_by kind end predictor unpredicted width height c =
-    let z = either_false (width == 0) (height == 0) (none_by _ _ _ c) in
-    (some_by width z.0, some_by height z.1)
-
 -- ---- `new_image`
 
 module _ (color : ColorTypeRecord) (size width height : ℕ) (old : FileState) where

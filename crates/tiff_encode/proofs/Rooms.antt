@@ -131,6 +131,21 @@ module _ {S A : Type 0} (opened : S → OpenDirectory) (having : S → OpenDirec
   settled_unwritten (Err e) room old new in_room (q, n) =
       let P : Result Field TiffError → Type 0 = λ p. IsInRoom room old new p in subst P q in_room
 
+  -- a call that sets a field to the value ends so, or the state stays
+  pub tag_set : (v : Value) (r : Result A TiffError) (room : Room) (made : Bool) (roomed : S)
+      (old new : FileState)
+      → roomed ≡ having s (with_room (opened s) t room) → IsRoomFor t (opened s) room
+      → made ≡ is_made room → IsInRoom made old new placed
+      → Ends (λ (f : Field). f) (entry_of v old) placed old new
+      → ((s : S) → roomed ≡ having s (with_room (opened s) t room) → IsRoomFor t (opened s) room
+      → IfOk placed (λ _. is_made room ≡ true)
+      → IsSettled (λ field. having s (with_field (opened s) t field)) s placed r next)
+      → OnErr r (next ≡ s) × Ends (λ (_ : A). opened next) (tag_of (opened s) t v old) r old new
+  tag_set v r room made roomed old new at is m in_room ends settles =
+      let settled : Settled r =
+      settles s at is (room_kept room made placed old new m in_room) in
+      (settled_stays r settled, settled_ends v old new ends r settled)
+
   -- what a call leaves that sets a field to the value
   pub record SetsTag (v : Value) (r : Result A TiffError) (old new : FileState) : Type 0 where
     pub stays : OnErr r (next ≡ s)

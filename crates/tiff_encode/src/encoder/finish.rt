@@ -3,7 +3,7 @@
 ghost use Rattle.std.specs.Prelude.{◌≡◌, ℕ, ◌+◌, ◌<◌, ◌≤◌, length, IfOk, MatchResult, if◌then◌else◌, None, Some, false, ◌++◌, OnOk, ◌^◌, map, Ok};
 ghost use Rattle.tiff_encode.specs.Causes.{end_of, finish_cause, is_past, is_past_count};
 ghost use Rattle.tiff_encode.specs.Ends.{Ends};
-ghost use Rattle.tiff_encode.specs.Placing.{Lists, LinksFrom, end_test, Checks};
+ghost use Rattle.tiff_encode.specs.Placing.{Lists, LinksFrom};
 ghost use Rattle.tiff_value.specs.FileBytes.{offset_len, count_len, directory_bytes, entry_bytes};
 ghost use Rattle.std.specs.List.{list_any, flat_map};
 ghost use Rattle.std.specs.Io.{StartsWith};
@@ -99,28 +99,6 @@ fn is_past_entries(kind: FileKind, count: usize) -> bool
     }
 }
 
-/// Checks whether a directory can end at the end of a file of `end` bytes. Returns the first error
-/// that applies: `IntSizeError` if there are more entries or a field has more values than the kind
-/// of file can count, or if the offset of the directory exceeds the bytes of an offset;
-/// `UsageError(ParentNotWritten)` if the parent's link isn't within the file.
-#[tactic(auto, unfolding(crate::specs::Placing::end_test))]
-pub fn check_end(kind: FileKind, end: u64, fields: &DirectoryState) -> TiffResult<()>
-    ensures { Checks (end_test kind end fields.now) result }
-{
-    if is_past_entries(kind, fields.directory.len()) || has_far_count(kind, &fields.directory) {
-        return Err(TiffError::IntSizeError);
-    }
-    if is_past_offset(kind, end) {
-        return Err(TiffError::IntSizeError);
-    }
-    match fields.parent {
-        Some(parent) if end.saturating_sub(parent) < offset_size(kind) => {
-            Err(TiffError::UsageError(UsageError::ParentNotWritten))
-        }
-        _ => Ok(()),
-    }
-}
-
 impl<W: Sink, K: TiffKind> TiffEncoder<W, K> {
     // Appends a directory with link 0, and returns the offset of that link.
     fn append_listed(&mut self, fields: &DirectoryState) -> TiffResult<u64>
@@ -153,16 +131,27 @@ impl<W: Sink, K: TiffKind> TiffEncoder<W, K> {
 
     // Returns the end of the file, where the directory is appended, or the first error of `finish`
     // that applies.
+    #[tactic(auto, unfolding(crate::specs::Causes::finish_cause))]
     fn end_offset(&self, fields: &DirectoryState) -> TiffResult<u64>
         ensures { MatchResult result
             (λ end. (self.now.fault ≡ None) × (end ≡ end_of self.now)
             × (finish_cause self.now fields.now ≡ None))
             (λ e. finish_cause self.now fields.now ≡ Some e) }
     {
-        self.fact_kind();
         let end = self.end()?;
-        check_end(K::file_kind(), end, fields)?;
-        Ok(end)
+        let kind = self.file_kind();
+        if is_past_entries(kind, fields.directory.len())
+            || has_far_count(kind, &fields.directory)
+            || is_past_offset(kind, end)
+        {
+            return Err(TiffError::IntSizeError);
+        }
+        match fields.parent {
+            Some(parent) if end.saturating_sub(parent) < offset_size(kind) => {
+                Err(UsageError::ParentNotWritten.into())
+            }
+            _ => Ok(end),
+        }
     }
 
     // Sets the last link of the IFD chain to the directory's own link, if the directory is in the

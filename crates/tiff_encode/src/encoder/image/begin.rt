@@ -5,10 +5,9 @@ ghost use Rattle.tiff_base.specs.Types.{type_size};
 ghost use Rattle.tiff_value.specs.ColorType.{columns_of};
 ghost use Rattle.tiff_encode.specs.Calls as calls;
 ghost use Rattle.tiff_encode.specs.Calls.{default_rows, image_in, new_directory};
-ghost use Rattle.tiff_encode.specs.Causes.{image_cause, is_past, new_image_cause};
+ghost use Rattle.tiff_encode.specs.Causes.{is_past, new_image_cause};
 ghost use Rattle.tiff_encode.specs.Ends.{Ends};
 ghost use Rattle.tiff_encode.specs.Machine.{compression_method};
-ghost use Rattle.tiff_encode.specs.Placing.{Checks};
 ghost use Rattle.tiff_encode.specs.Tagging.{fields_of};
 ghost use Rattle.tiff_value.specs.FileBytes.{resolutions_offset};
 
@@ -47,36 +46,6 @@ fn is_past_resolutions(kind: FileKind, end: u64) -> bool
     }
 }
 
-/// Returns the first error of `new_image` that applies, except that of an earlier failed write.
-/// `unpredicted` tells whether the color type has no predictor.
-#[tactic(auto, unfolding(crate::specs::Causes::image_cause))]
-fn check_image(
-    kind: FileKind,
-    end: u64,
-    predictor: Predictor,
-    unpredicted: bool,
-    sides: (u32, u32),
-) -> TiffResult<()>
-    ensures { Checks (image_cause kind end predictor unpredicted sides.0 sides.1) result }
-{
-    if sides.0 == 0 || sides.1 == 0 {
-        return Err(TiffError::FormatError(TiffFormatError::InvalidDimensions(sides.0, sides.1)));
-    }
-    match predictor {
-        Predictor::None => {}
-        Predictor::Horizontal => {
-            if unpredicted {
-                return Err(TiffError::UsageError(UsageError::PredictorIncompatible));
-            }
-        }
-        _ => return Err(TiffError::UsageError(UsageError::PredictorUnavailable)),
-    }
-    if is_past_resolutions(kind, end) {
-        return Err(TiffError::IntSizeError);
-    }
-    Ok(())
-}
-
 // Returns the compression method that a `Compression` means.
 fn method(compression: Compression) -> CompressionMethod
     ensures { result ≡ compression_method compression }
@@ -111,7 +80,7 @@ fn rows_of_strip(compression: Compression, row_bytes: u64) -> u32
 
 impl<W: Sink, K: TiffKind> TiffEncoder<W, K> {
     // Returns the first error of `new_image` that applies before a byte is written.
-    #[tactic(auto, unfolding(crate::specs::Causes::new_image_cause))]
+    #[tactic(auto, unfolding(crate::specs::Causes::image_cause, crate::specs::Causes::new_image_cause))]
     fn check_new_image(&self, color: &ImageColor, width: u32, height: u32) -> TiffResult<()>
         ensures { MatchResult result
             (λ _. (self.now.fault ≡ None) × (0 < width) × (0 < height)
@@ -119,13 +88,21 @@ impl<W: Sink, K: TiffKind> TiffEncoder<W, K> {
             (λ e. new_image_cause self.now color.now width height ≡ Some e) }
     {
         let end = self.end()?;
-        check_image(
-            self.file_kind(),
-            end,
-            self.predictor,
-            color.is_unpredicted(),
-            (width, height),
-        )?;
+        if width == 0 || height == 0 {
+            return Err(TiffFormatError::InvalidDimensions(width, height).into());
+        }
+        match self.predictor {
+            Predictor::None => {}
+            Predictor::Horizontal => {
+                if color.is_unpredicted() {
+                    return Err(UsageError::PredictorIncompatible.into());
+                }
+            }
+            _ => return Err(UsageError::PredictorUnavailable.into()),
+        }
+        if is_past_resolutions(self.file_kind(), end) {
+            return Err(TiffError::IntSizeError);
+        }
         Ok(())
     }
 
