@@ -211,29 +211,33 @@ either : (inline : Bool) (x y : PlainValue) → x ≡ y → cond inline x x ≡ 
 either true x y e = e
 either false x y e = e
 
+-- numbers are read in the same way from the entry and from elsewhere
+are_read : (type : «Type») (limit : ℕ) (one : ℕ → PlainValue)
+    → ((n : ℕ) → n < limit → item type LittleEndian (le (type_size type) n) ≡ one n)
+    → ((inline : Bool) (bytes : List ℕ) → list_item inline type LittleEndian bytes
+    ≡ cond inline (item type LittleEndian bytes) (item type LittleEndian bytes))
+    → ((inline : Bool) (n : ℕ) (bytes : List ℕ)
+    → value_from inline type LittleEndian n bytes ≡ Ok (numbers inline type LittleEndian n bytes))
+    → ((n : ℕ) → n < 2 ^ 32 → is_allowed unlimited type n ≡ true) → AreNumbers type limit one
+are_read type limit one alone among plain free = record {
+  alone = alone;
+  among = λ inline n h.
+      among inline (le (type_size type) n) ∙ either inline _ _ (alone n h);
+  plain = plain;
+  free = free;
+}
+
 -- SHORT: numbers of 2 bytes
 pub are_shorts : AreNumbers SHORT (2 ^ 16) short
-are_shorts = record {
-  alone = λ n h. ap short (number-le w16 n (inl refl) h);
-  among = λ inline n h. either inline _ _ (ap short (number-le w16 n (inl refl) h));
-  plain = λ inline n bytes. refl;
-  free = all_free;
-}
+are_shorts =
+    are_read SHORT (2 ^ 16) short (λ n h. ap short (number-le w16 n (inl refl) h)) (λ _ _. refl) (λ _ _ _. refl) all_free
 
 -- LONG: numbers of 4 bytes
 pub are_longs : AreNumbers LONG (2 ^ 32) unsigned
-are_longs = record {
-  alone = λ n h. ap unsigned (number-le w32 n (inr (inl refl)) h);
-  among = λ inline n h. either inline _ _ (ap unsigned (number-le w32 n (inr (inl refl)) h));
-  plain = λ inline n bytes. refl;
-  free = all_free;
-}
+are_longs =
+    are_read LONG (2 ^ 32) unsigned (λ n h. ap unsigned (number-le w32 n (inr (inl refl)) h)) (λ _ _. refl) (λ _ _ _. refl) all_free
 
 -- LONG8: numbers of 8 bytes
 pub are_long8s : AreNumbers LONG8 (2 ^ 64) unsigned_big
-are_long8s = record {
-  alone = λ n h. ap unsigned_big (number-le w64 n (inr (inr refl)) h);
-  among = λ inline n h. either inline _ _ (ap unsigned_big (number-le w64 n (inr (inr refl)) h));
-  plain = λ inline n bytes. refl;
-  free = all_free;
-}
+are_long8s =
+    are_read LONG8 (2 ^ 64) unsigned_big (λ n h. ap unsigned_big (number-le w64 n (inr (inr refl)) h)) (λ _ _. refl) (λ _ _ _. refl) all_free

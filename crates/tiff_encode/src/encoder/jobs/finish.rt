@@ -147,7 +147,7 @@ impl<'a, W: Sink, K: TiffKind, T: Sample> DirectoryEncoder<'a, W, K, ImageState<
         self.write_samples(ImageSamples::Typed(samples.as_slice()))
     }
 
-    // `finish`; the reply to `discard` is the same.
+    // Ends the image as both `finish` and `discard` do.
     fn finish_drawn(self) -> TiffResult<EndReply>
         ensures { EndMoves
             (λ s t offset. ImageEnds s self.entry.state ImageEnd.Finish result t offset)

@@ -16,9 +16,7 @@ loop-step-init g c =
     λ rs s t. AllStepped DirectoryStepped s d (take 0 steps) rs t d in
     record {
       same = refl;
-      count =
-          (let v = c.args.replies.now.ok in let e = ap (λ xs. length xs) c.requires.none in
-          omega (arith, v, e));
+      count = omega (arith, c.args.replies.now.ok, ap (λ xs. length xs) c.requires.none);
       room = omega arith;
       moves =
           moves_none (P c.args.replies.now.items) c.args.self.now.encoder.now

@@ -14,9 +14,7 @@ loop-step-init g c =
     record {
       same = refl;
       kind = refl;
-      count =
-          (let v = c.args.replies.now.ok in let e = ap (λ xs. length xs) c.requires.none in
-          omega (arith, v, e));
+      count = omega (arith, c.args.replies.now.ok, ap (λ xs. length xs) c.requires.none);
       room = omega arith;
       draws =
           subst (λ rs. StepsDraw i (take 0 c.args.steps.now) rs file file i) (sym c.requires.none)
