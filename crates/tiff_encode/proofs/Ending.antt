@@ -95,31 +95,6 @@ own_link_within old new fields link kind w s l k =
 
 -- ---- errors that refuse the end of a directory
 
--- the test of a parent's link returns the error of its check
-parent_tested : (file : FileState) (parent : Option ℕ)
-    → parent_cause file parent ≡ parent_test file.kind (end_of file) parent
-parent_tested file None = refl
-parent_tested file (Some offset) = refl
-
--- without an earlier failed write, the test of a directory's end returns the error that refuses it
-pub end_cause : (file : FileState) (d : OpenDirectory) (kind : FileKind) (end : ℕ)
-    → file.fault ≡ None → kind ≡ file.kind
-    → end ≡ end_of file → end_test kind end d ≡ finish_cause file d
-unfolding finish_cause end_test
-end_cause file d kind end f k a =
-    let c : Option TiffError → Option TiffError =
-    λ rest. cond (is_past_count file.kind (len d.fields)
-    || (list_any (λ entry. is_past file.kind entry.1.count) (entries d.fields) || is_past file.kind (end_of file))) (Some IntSizeError) rest in
-    (λ i. end_test (k i) (a i) d) ∙ ap c (sym (parent_tested file d.parent))
-    ∙ sym (fresh_cause file.fault _ f)
-
--- after an error of the sink, `WriterFailed` refuses the end of a directory
-pub end_stopped : (file : FileState) (d : OpenDirectory) (e : TiffError) → IsSome file.fault
-    → e ≡ UsageError WriterFailed
-    → finish_cause file d ≡ Some e
-unfolding finish_cause
-end_stopped file d e s q = stopped_cause file.fault _ s ∙ ap Some (sym q)
-
 -- if the tests return no error, the first test isn't met and the others return none
 passed : (b : Bool) (e : TiffError) (cause : Option TiffError) → cond b (Some e) cause ≡ None
     → (b ≡ false) × (cause ≡ None)

@@ -45,20 +45,6 @@ Places value old new r =
 
 -- ---- the end of a directory
 
--- the error of a parent's link that isn't within a file of a length
-abbrev pub parent_test : FileKind → ℕ → Option ℕ → Option TiffError
-parent_test kind end None = None
-parent_test kind end (Some offset) = if nat_lt end (offset + offset_len kind)
-    then Some (UsageError ParentNotWritten) else None
-
--- the error of the end of a directory, at the end of a file of a length
-unfoldable pub end_test : FileKind → ℕ → OpenDirectory → Option TiffError
-end_test kind end d =
-    if is_past_count kind (len d.fields)
-    || (list_any (λ entry. is_past kind entry.1.count) (entries d.fields) || is_past kind end)
-    then Some IntSizeError
-    else parent_test kind end d.parent
-
 -- a directory is appended, and the result is the offset of its own link; or the sink fails; or
 -- memory is out
 abbrev pub Lists : OpenDirectory → FileState → FileState → Result ℕ TiffError → Type 0

@@ -13,7 +13,6 @@ use Rattle.tiff_encode.specs.Encoder.{is_too_far}
 use Rattle.tiff_encode.specs.Machine.{FileState, OpenDirectory}
 use Rattle.tiff_encode.specs.Calls.{new_directory}
 use Rattle.tiff_encode.specs.Causes.{end_of, finish_cause, is_past, is_past_count, parent_cause, unless_failed}
-use Rattle.tiff_encode.specs.Placing.{end_test, parent_test}
 use Rattle.test_definitions.proofs.Maps.{entries_puts}
 use Rattle.test_definitions.specs.Encode.Causes as s
 use Rattle.test_definitions.specs.Encode.Causes.{new_file}
@@ -33,23 +32,6 @@ finish_by : (file : FileState) (d : OpenDirectory) (count : ℕ) (fields : List 
     → finish_cause file d ≡ finish_cause_by file d count fields
 unfolding tiff_on_literals
 finish_by file d count fields p q = λ i. finish_cause_by file d (p i) (q i)
-
--- why a directory can't be finished, computed from the length of the file as well
-abbrev end_test_by : FileKind → ℕ → OpenDirectory → ℕ → List (ℕ × Field) → Option TiffError
-end_test_by kind end d count fields =
-    if is_past_count kind count || (list_any (λ entry. is_past kind entry.1.count) fields || is_past kind end)
-    then Some IntSizeError
-    else parent_test kind end d.parent
-
-end_by : (kind : FileKind) (end : ℕ) (d : OpenDirectory) (count : ℕ) (fields : List (ℕ × Field))
-    → len d.fields ≡ count → entries d.fields ≡ fields
-    → end_test kind end d ≡ end_test_by kind end d count fields
-unfolding tiff_on_literals
-end_by kind end d count fields p q = λ i. end_test_by kind end d (p i) (q i)
-
-pub test_parent : s.test_parent
-test_parent =
-    end_by Classic 8 (new_directory (Some 5) false) 0 [] (len-empty nat_cmp Field) (entries_puts [])
 
 pub parent_last : s.parent_last
 parent_last =
@@ -73,4 +55,4 @@ pub resolutions_far : s.resolutions_far
 unfolding tiff_on_literals
 resolutions_far = λ bytes h. ap (λ n. if is_too_far (n + 8) then Some IntSizeError else None) h
 
-pub ruleset worked = (parent_last, parent_past, parent_past_big, no_parent, test_parent)
+pub ruleset worked = (parent_last, parent_past, parent_past_big, no_parent)

@@ -28,7 +28,7 @@ use Rattle.tiff_page.specs.Counts.{all_chunks}
 use Rattle.tiff_encode.specs.Chunks.{image_page, next_strip_sample_count, next_chunk_sample_count}
 use Rattle.tiff_encode.specs.Calls.{new_directory, image_in, with_chunk, strips_of, tiles_of}
 use Rattle.tiff_encode.specs.Causes as causes
-use Rattle.tiff_encode.specs.Placing.{field_test, end_test}
+use Rattle.tiff_encode.specs.Placing.{field_test}
 
 -- a file with only a header, a file whose sink failed, and a file with these bytes
 abbrev pub new_file : FileKind → FileState
@@ -243,16 +243,6 @@ parent_past_big =
     causes.finish_cause (new_file Big) (new_directory (Some 9) false)
     ≡ Some (UsageError ParentNotWritten)
 
--- a parent's link against the length of the file; a directory offset beyond four bytes is refused
--- first
-abbrev pub test_parent : Type 0
-test_parent = end_test Classic 8 (new_directory (Some 5) false) ≡ Some (UsageError ParentNotWritten)
-
--- mistake: `end_test` doesn't test the directory's offset
-abbrev pub test_end_far : Type 0
-test_end_far =
-    end_test Classic 4294967296 (new_directory (Some 4294967293) false) ≡ Some IntSizeError
-
 -- without a parent no link is patched
 abbrev pub no_parent : Type 0
 no_parent = causes.finish_cause (new_file Classic) (new_directory None false) ≡ None
@@ -275,10 +265,12 @@ large_count = (d : OpenDirectory) → len d.fields ≡ 1
     → entries d.fields ≡ (256, large_field) ∷ []
     → causes.finish_cause (new_file Classic) d ≡ Some IntSizeError
 
--- a directory at an offset beyond four bytes
+-- mistake: `finish_cause` doesn't test the directory's offset
+-- a directory at an offset beyond four bytes is refused before its parent is checked
 abbrev pub far_directory : Type 0
 far_directory = (bytes : List ℕ) → length bytes ≡ 4294967296
-    → causes.finish_cause (file_with Classic bytes) (new_directory None false) ≡ Some IntSizeError
+    → causes.finish_cause (file_with Classic bytes) (new_directory (Some 4294967297) false)
+    ≡ Some IntSizeError
 
 -- offsets that a directory can't have
 abbrev pub zero_pointer : Type 0

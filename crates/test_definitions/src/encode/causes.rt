@@ -22,9 +22,8 @@ pub fn fields()
 pub fn ends()
     ensures computed { s.many_entries × s.many_entries_big × s.large_count × s.far_directory
         × s.zero_pointer ×
-        s.far_pointer × s.far_pointer_big × s.far_link × s.last_link × s.test_end_far }
-    ensures by_lemma { s.parent_last × s.parent_past × s.parent_past_big × s.no_parent
-        × s.test_parent }
+        s.far_pointer × s.far_pointer_big × s.far_link × s.last_link }
+    ensures by_lemma { s.parent_last × s.parent_past × s.parent_past_big × s.no_parent }
 {}
 
 /// New images and their settings.
