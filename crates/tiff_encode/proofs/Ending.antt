@@ -1,13 +1,12 @@
 -- What the end of a directory does, and what it returns.
 use Rattle.std.proofs.Common.{◌≡◌, ℕ, ◌*◌, ◌+◌, ◌-◌, ◌<◌, ◌≤◌, Bool, true, false, cond, List, [], ◌∷◌, ◌++◌, length, take, Option, Some, None, Result, Ok, Err, refl, ap, sym, ◌∙◌, inl, inr, subst, arith, append_assoc, append-nil, length-append, length-take-le}
 use Rattle.std.proofs.lemmas.Bool.{ltb-false}
-use Rattle.std.specs.Prelude.{◌||◌, ◌⊎◌, nat_lt, IsSome}
+use Rattle.std.specs.Prelude.{◌⊎◌, nat_lt}
 use Rattle.std.specs.FinMap.{FinMap, len, entries, len-entries}
-use Rattle.std.specs.List.{flat_map, list_any}
+use Rattle.std.specs.List.{flat_map}
 use Rattle.std.specs.Ordering.{nat_cmp}
 use Rattle.tiff_base.specs.declared.error.TiffError.{TiffError}
-use Rattle.tiff_base.specs.declared.error.TiffError.TheVariants.{IntSizeError, UsageError, OutOfMemory}
-use Rattle.tiff_base.specs.declared.error.UsageError.TheVariants.{WriterFailed}
+use Rattle.tiff_base.specs.declared.error.TiffError.TheVariants.{OutOfMemory}
 use Rattle.tiff_base.specs.declared.tags.FileKind.{FileKind}
 use Rattle.tiff_base.specs.declared.tags.FileKind.TheVariants.{Classic, Big}
 use Rattle.tiff_base.specs.Directory.{entry_len, link_offset}
@@ -19,11 +18,10 @@ use Rattle.tiff_encode.specs.Machine.{FileState, OpenDirectory, WriteCall, does,
 use Rattle.tiff_value.specs.WriteOps.{WriteOp, Listed, bytes_after, all_appended}
 use Rattle.tiff_encode.specs.Encoder.{AppendIsCut, IsTorn}
 use Rattle.tiff_encode.specs.FileWrites.{file_with_bytes}
-use Rattle.tiff_encode.specs.Causes.{is_past, is_past_count, end_of, parent_cause, finish_cause}
+use Rattle.tiff_encode.specs.Causes.{end_of, parent_cause, finish_cause}
 use Rattle.tiff_encode.specs.Calls.{Offsets, offsets_of, links_to, chain_after, chains, finish}
 use Rattle.tiff_encode.specs.Ends.{EndsAsDefined, LinkWriteFailed, Ends}
-use Rattle.tiff_encode.specs.Placing.{parent_test, end_test}
-use Rattle.tiff_encode.proofs.Calling.{stopped_cause, fresh_cause, refused, uncaused, wanting, cut_off}
+use Rattle.tiff_encode.proofs.Calling.{fresh_cause, refused, uncaused, wanting, cut_off}
 use Rattle.tiff_base.specs.lemmas.Slices.{length-le}
 
 -- ---- the length of a directory

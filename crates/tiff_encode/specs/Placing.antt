@@ -1,10 +1,8 @@
 -- The steps by which a value is written for a field, and a directory ends.
-use Rattle.std.specs.Prelude.{◌≡◌, ℕ, ◌+◌, ◌⊎◌, ◌&&◌, ◌||◌, List, [], Option, Some, None, Result, MatchResult, if◌then◌else◌, nat_lt}
-use Rattle.std.specs.FinMap.{len, entries}
-use Rattle.std.specs.List.{list_any}
+use Rattle.std.specs.Prelude.{◌≡◌, ℕ, ◌⊎◌, ◌&&◌, List, [], Option, Some, None, Result, MatchResult, if◌then◌else◌, nat_lt}
+use Rattle.std.specs.FinMap.{len}
 use Rattle.tiff_base.specs.declared.error.TiffError.{TiffError}
-use Rattle.tiff_base.specs.declared.error.TiffError.TheVariants.{IntSizeError, UsageError, OutOfMemory}
-use Rattle.tiff_base.specs.declared.error.UsageError.TheVariants.{ParentNotWritten}
+use Rattle.tiff_base.specs.declared.error.TiffError.TheVariants.{IntSizeError, OutOfMemory}
 use Rattle.tiff_base.specs.declared.tags.FileKind.{FileKind}
 use Rattle.tiff_base.specs.Directory.{link_offset}
 use Rattle.tiff_base.specs.Field.{Field}
@@ -13,7 +11,7 @@ use Rattle.tiff_value.specs.FileBytes.{offset_len, directory_bytes}
 use Rattle.tiff_encode.specs.Machine.{FileState, OpenDirectory}
 use Rattle.tiff_encode.specs.Encoder.{AppendIsCut, IsTorn}
 use Rattle.tiff_encode.specs.FileWrites.{file_with_bytes}
-use Rattle.tiff_encode.specs.Causes.{is_past, is_past_count, end_of}
+use Rattle.tiff_encode.specs.Causes.{is_past, end_of}
 use Rattle.tiff_value.specs.Fields.{is_long, field_at}
 use Rattle.tiff_value.specs.WriteOps.{bytes_after}
 use Rattle.tiff_encode.specs.Calls.{links_to}

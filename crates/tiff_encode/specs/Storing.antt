@@ -1,12 +1,8 @@
 -- How a chunk of samples is written (this project's).
-use Rattle.std.specs.Prelude.{◌≡◌, ℕ, ◌⊎◌, ◌==◌, ◌||◌, not, List, length, Option, Some, None, Result, Ok, Err, if◌then◌else◌}
+use Rattle.std.specs.Prelude.{◌≡◌, ℕ, ◌⊎◌, List, length, Option, Some, None, Result, Ok, Err}
 use Rattle.tiff_base.specs.declared.error.TiffError.{TiffError}
-use Rattle.tiff_base.specs.declared.error.TiffError.TheVariants.{IoError, IntSizeError, OutOfMemory}
-use Rattle.tiff_base.specs.declared.io.IoKind.TheVariants.{InvalidData}
-use Rattle.tiff_base.specs.declared.tags.FileKind.{FileKind}
+use Rattle.tiff_base.specs.declared.error.TiffError.TheVariants.{OutOfMemory}
 use Rattle.tiff_encode.specs.Machine.{FileState, OpenImage, WriteOutcome, WriteCall}
-use Rattle.tiff_encode.specs.Chunks.{is_left, next_chunk_sample_count}
-use Rattle.tiff_encode.specs.Causes.{is_past, is_past_chunks}
 use Rattle.tiff_encode.specs.Ends.{EndsAsDefined, AppendFailed}
 use Rattle.tiff_encode.specs.Stored.{IsChunkStored}
 

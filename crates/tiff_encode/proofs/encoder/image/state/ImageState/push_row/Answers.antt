@@ -1,4 +1,4 @@
-use Rattle.std.proofs.Common.{◌≡◌, ◌-◌, ◌*◌, ◌<◌, map}
+use Rattle.std.proofs.Common.{◌-◌, ◌*◌, ◌<◌, map}
 use Rattle.tiff_base.specs.Types.{type_size}
 use Rattle.tiff_value.specs.ColorType.{sample_number}
 use Rattle.tiff_encode.specs.Chunks.{image_page}
