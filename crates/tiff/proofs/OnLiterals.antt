@@ -32,7 +32,7 @@ use Rattle.tiff_encode.specs.Calls.{image_directory, extra_directory, write_entr
 use Rattle.tiff_encode.specs.Causes.{begin_cause, write_tag_cause, write_buf_cause, write_entry_bytes_cause, write_data_cause, write_data_buf_cause, finish_cause, offset_cause, image_cause, new_image_cause, extra_samples_cause, rows_per_strip_cause, tiles_cause, planar_cause, resolution_cause, one_resolution_cause, resolution_unit_cause, write_chunk_cause, write_strip_cause, write_image_data_cause}
 use Rattle.tiff_encode.specs.Chunks.{next_chunk_sample_count, next_strip_sample_count, cut_out, parts_left, sample_in}
 use Rattle.tiff_value.specs.FileBytes.{directory_bytes}
-use Rattle.tiff_encode.specs.Placing.{field_test, end_test}
+use Rattle.tiff_encode.specs.Placing.{field_test}
 use Rattle.tiff_encode.specs.Stored.{unpacked_chunk}
 
 unfoldable pub base_on_literals : ⊤
@@ -81,7 +81,7 @@ unfolding image_directory extra_directory write_entry write_entry_buf write_entr
     write_entry_bytes_cause write_data_cause write_data_buf_cause finish_cause offset_cause image_cause
     new_image_cause extra_samples_cause rows_per_strip_cause tiles_cause planar_cause resolution_cause
     one_resolution_cause resolution_unit_cause write_chunk_cause write_strip_cause write_image_data_cause
-    next_chunk_sample_count next_strip_sample_count cut_out parts_left sample_in directory_bytes field_test end_test
+    next_chunk_sample_count next_strip_sample_count cut_out parts_left sample_in directory_bytes field_test
     unpacked_chunk
 encode_on_literals = tt
 
