@@ -27,7 +27,7 @@ pub mod Links
 pub mod ToldBehind
 mod Plans
 mod Rewritten
-mod SeenFiles
+pub mod SeenFiles
 mod Parts
 mod Spliced
 mod Stored

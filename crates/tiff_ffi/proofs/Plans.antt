@@ -292,32 +292,25 @@ order_is : (kind : FileKind) (order : ByteOrder) (directory : DirectoryRecord) (
 unfolding plan_of
 order_is kind order directory p plan h = order_found kind order p plan _ _ h
 
-module _ (back : NumbersComeBack) where
-  method_kept : (n : ℕ) (m : CompressionMethod) → good (method_of n) ≡ good m
-      → method_of (method_number m) ≡ m
-  method_kept n m h =
-      let same : method_of n ≡ m = ok_is _ m h in
-      subst (λ (k : CompressionMethod). method_of (method_number k)
-      ≡ k) same (ap method_of (back.methods n))
+-- what a number names has a number that names it
+kept : {A : Type 0} (of : ℕ → A) (number : A → ℕ) → ((n : ℕ) → number (of n) ≡ n) → (n : ℕ) (x : A)
+    → good (of n) ≡ good x → of (number x) ≡ x
+kept of number back n x h =
+    let same : of n ≡ x = ok_is _ x h in
+    subst (λ y. of (number y) ≡ y) same (ap of (back n))
 
+module _ (back : NumbersComeBack) where
   method_is : (look : TagLookup) (m : CompressionMethod) → method_in look ≡ Ok m
       → method_of (method_number m) ≡ m
   unfolding method_in
   method_is look m h =
       let number =
       bind_ok (find_or into_u16 look tag.Compression 1) (λ number. Ok (method_of number)) m h in
-      method_kept number.0 m number.1.1
-
-  format_kept : (n : ℕ) (f : SampleFormat) → good (format_of n) ≡ good f
-      → format_of (format_number f) ≡ f
-  format_kept n f h =
-      let same : format_of n ≡ f = ok_is _ f h in
-      subst (λ (k : SampleFormat). format_of (format_number k)
-      ≡ k) same (ap format_of (back.formats n))
+      kept method_of method_number back.methods number.0 m number.1.1
 
   format_chosen : (b : Bool) (n : ℕ) (e : TiffError) (f : SampleFormat)
       → (if b then Ok (format_of n) else Err e) ≡ Ok f → format_of (format_number f) ≡ f
-  format_chosen true n e f h = format_kept n f h
+  format_chosen true n e f h = kept format_of format_number back.formats n f h
   format_chosen false n e f h = absurd (cc)
 
   one_kept : (numbers : List ℕ) (f : SampleFormat) → one_format numbers ≡ Ok f
@@ -331,7 +324,7 @@ module _ (back : NumbersComeBack) where
 
   from_kept : (found : Option (List ℕ)) (f : SampleFormat) → format_from found ≡ Ok f
       → format_of (format_number f) ≡ f
-  from_kept None f h = format_kept 1 f (ap good uint_kept ∙ h)
+  from_kept None f h = kept format_of format_number back.formats 1 f (ap good uint_kept ∙ h)
   from_kept (Some numbers) f h =
       let formats =
       bind_ok (fitted_numbers tag.SampleFormat (2 ^ 16) numbers) one_format f h in

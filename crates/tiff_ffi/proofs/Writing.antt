@@ -1,5 +1,5 @@
 -- A file that an encoder wrote into memory shows its image.
-use Rattle.std.proofs.Common.{◌≡◌, ℕ, ◌%◌, ◌<◌, ◌⊎◌, inl, inr, Bool, true, false, List, [], length, get_or, Fits, w8, None, Some, Result, Ok, Err, refl, sym, ap, subst, ◌∙◌, lit<}
+use Rattle.std.proofs.Common.{◌≡◌, ℕ, ◌%◌, ◌<◌, ◌⊎◌, inl, inr, Bool, true, false, List, [], length, get_or, Fits, w8, None, Some, Result, Ok, Err, IfOk, refl, sym, ap, subst, ◌∙◌, lit<}
 use Rattle.tiff_base.specs.declared.error.TiffError.{TiffError}
 use Rattle.std.specs.Prelude.{◌==◌, if◌then◌else◌}
 use Rattle.tiff_base.specs.declared.error.TiffError.TheVariants.{OutOfMemory, UsageError}
@@ -8,6 +8,7 @@ use Rattle.tiff_base.specs.declared.tags.«Type».{«Type»}
 use Rattle.tiff_base.specs.declared.io.SinkFault.TheVariants as sink
 use Rattle.tiff_base.specs.declared.tags.FileKind.{FileKind}
 use Rattle.tiff_base.specs.declared.tags.FileKind.TheVariants.{Classic, Big}
+use Rattle.tiff_decode.specs.NextState.{view_of_result}
 use Rattle.tiff_value.specs.ColorType.{ColorTypeRecord}
 use Rattle.tiff_value.specs.ColorTypes.{color_type, inner_size, inner_type}
 use Rattle.tiff_base.specs.Types.{type_size}
@@ -97,33 +98,32 @@ module _ (s : Settings) (width height failures : ℕ) (samples : List ℕ) (old 
       → IsLink s.kind m (file_by s failures).chain → LeavesNewImage color n width height samples r (file_by s failures) last m) sized
       (subst (λ (f : FileState). (m : Model) → FileContains f.kind f.bytes m → IsLink f.kind m f.chain → LeavesNewImage color size width height samples r f last m) is l))
 
-  pub file_written : (file : List ℕ) → Answers (Ok tt) → Leaves (Ok tt) → file ≡ last.bytes
-      → WritesImageFile s width height samples (Ok file)
-  file_written file w l bytes =
-      let written : IsWritten s width height samples (Ok file) = record {
+  written_by : (answer : Result (List ℕ) TiffError)
+      → Answers (view_of_result {Y = Unit {0}} (λ _. tt) answer)
+      → IfOk answer (λ file. file ≡ last.bytes)
+      → IfOk answer (λ file. ShowsFirst s.kind file (image_by s width height samples))
+      → WritesImageFile s width height samples answer
+  written_by answer w file shows =
+      let written : IsWritten s width height samples answer = record {
         failures = failures;
         last = last;
-        written = answered (Ok tt) w;
+        written = answered _ w;
         fault = fault;
-        file = bytes;
-        shows =
-            subst (λ (bs : List ℕ). ShowsFirst s.kind bs (image_by s width height samples))
-            (sym bytes) (left_shown s width height failures samples last (left (Ok tt) l));
+        file = file;
+        shows = shows;
       } in
       inr written
 
+  pub file_written : (file : List ℕ) → Answers (Ok tt) → Leaves (Ok tt) → file ≡ last.bytes
+      → WritesImageFile s width height samples (Ok file)
+  file_written file w l bytes =
+      written_by (Ok file) w bytes
+      (subst (λ (bs : List ℕ). ShowsFirst s.kind bs (image_by s width height samples)) (sym bytes)
+      (left_shown s width height failures samples last (left (Ok tt) l)))
+
   pub fault_written : (e : TiffError) → Answers (Err e)
       → WritesImageFile s width height samples (Err e)
-  fault_written e w =
-      let written : IsWritten s width height samples (Err e) = record {
-        failures = failures;
-        last = last;
-        written = answered (Err e) w;
-        fault = fault;
-        file = tt;
-        shows = tt;
-      } in
-      inr written
+  fault_written e w = written_by (Err e) w tt tt
 
 -- ---- samples that bytes are
 

@@ -174,6 +174,7 @@ fn bytes_wanted(stretch: Stretch, wanted: &mut Stretch) -> u32
 /// window has, it returns `BytesWanted` and puts their stretch into `wanted`. For windows in
 /// disorder it returns the number of `IoError(InvalidInput)`. `count` is then 0, and `out` is as it
 /// was.
+#[tactic(auto, using(crate::proofs::SeenFiles::of_order))]
 pub fn list_pages_in(
     alloc: Global,
     seen: &Windows<'_>,
@@ -201,6 +202,7 @@ pub fn list_pages_in(
 /// no window has, it returns `BytesWanted` and puts their stretch into `wanted`. For windows in
 /// disorder it returns the number of `IoError(InvalidInput)`. `count` is then 0, and `out` is as it
 /// was.
+#[tactic(auto, using(crate::proofs::SeenFiles::of_order))]
 pub fn list_directories_in(
     alloc: Global,
     seen: &Windows<'_>,
@@ -287,6 +289,7 @@ fn range_seen<F: SeenFile>(
 /// `page_plan` does of the whole file. If it wants bytes that no window has, it returns
 /// `BytesWanted` and puts their stretch into `wanted`. For windows in disorder it returns the
 /// number of `IoError(InvalidInput)`. `plan` is then as it was.
+#[tactic(auto, using(crate::proofs::SeenFiles::of_order))]
 pub fn page_plan_in(
     alloc: Global,
     seen: &Windows<'_>,
@@ -312,6 +315,7 @@ pub fn page_plan_in(
 /// windows. If it wants bytes that no window has, it returns `BytesWanted` and puts their stretch
 /// into `wanted`. For windows in disorder it returns the number of `IoError(InvalidInput)`. What
 /// these leave in `buffer` is not specified.
+#[tactic(auto, using(crate::proofs::SeenFiles::of_order))]
 pub fn read_planned_chunk_in(
     alloc: Global,
     seen: &Windows<'_>,
@@ -337,6 +341,7 @@ pub fn read_planned_chunk_in(
 /// of which the caller has windows. If it wants bytes that no window has, it returns `BytesWanted`
 /// and puts their stretch into `wanted`. For windows in disorder it returns the number of
 /// `IoError(InvalidInput)`. What these leave in `buffer` is not specified.
+#[tactic(auto, using(crate::proofs::SeenFiles::of_order))]
 pub fn read_planned_chunks_in(
     alloc: Global,
     seen: &Windows<'_>,
@@ -365,6 +370,7 @@ pub fn read_planned_chunks_in(
 /// window has, it returns `BytesWanted` and puts their stretch into `wanted`. For windows in
 /// disorder it returns the number of `IoError(InvalidInput)`. `entries` and `count` are then as
 /// they were.
+#[tactic(auto, using(crate::proofs::SeenFiles::of_order))]
 pub fn list_tags_in(
     alloc: Global,
     seen: &Windows<'_>,
@@ -393,6 +399,7 @@ pub fn list_tags_in(
 /// the offset of a directory. If it wants bytes that no window has, it returns `BytesWanted` and
 /// puts their stretch into `wanted`. For windows in disorder it returns the number of
 /// `IoError(InvalidInput)`. `written` is then as it was; what is in `buffer` is not specified.
+#[tactic(auto, using(crate::proofs::SeenFiles::of_order))]
 pub fn tag_bytes_in(
     alloc: Global,
     seen: &Windows<'_>,

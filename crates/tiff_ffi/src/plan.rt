@@ -379,38 +379,63 @@ pub fn page_plan(alloc: Global, file: &[u8], page: usize) -> TiffResult<PlannedP
 
 // ---- chunks
 
-/// The chunks of a source, by a plan under limits.
+/// The plan of a page by its numbers, under no limits.
 #[derive(Drop)]
-pub(crate) struct PlannedChunks<R: Source> {
-    pub source: R,
+pub(crate) struct UnlimitedPlan {
     alloc: Global,
     plan: PagePlan,
     limits: Limits,
 }
 
+impl UnlimitedPlan {
+    /// What reads the chunks of the page.
+    pub(crate) fn reader(&self) -> PlanReader<'_>
+        ensures plan { result.plan.now ≡ self.now.plan }
+        ensures limits { result.limits.now ≡ self.now.limits }
+    {
+        PlanReader {
+            alloc: self.alloc,
+            plan: &self.plan,
+            limits: &self.limits,
+        }
+    }
+}
+
+/// The plan that numbers make, under no limits. Its errors: those of `plan_from`.
+pub(crate) fn unlimited_plan(alloc: Global, numbers: &PlannedPage) -> TiffResult<UnlimitedPlan>
+    ensures plan { AnswersWithoutSource (λ p. p.plan) result (spec.plan_from numbers.now) }
+    ensures limits { IfOk result (λ p. p.limits ≡ unlimited) }
+{
+    let plan = plan_from(numbers)?;
+    Ok(UnlimitedPlan {
+        alloc,
+        plan,
+        limits: Limits::unlimited(),
+    })
+}
+
+/// The chunks of a source, by a plan.
+#[derive(Drop)]
+pub(crate) struct PlannedChunks<R: Source> {
+    pub source: R,
+    by: UnlimitedPlan,
+}
+
 impl<R: Source> ReadsChunks for PlannedChunks<R> {
-    ghost reading = { λ p. spec.plan_reading (R.contents p.source).bytes p.plan p.limits };
+    ghost reading = { λ p. spec.plan_reading (R.contents p.source).bytes p.by.plan p.by.limits };
 
     ghost contents = { λ p. R.contents p.source };
 
     ghost failures = { λ p. R.failures p.source };
 
     fn len_of(&mut self, chunk: u32) -> TiffResult<usize> {
-        let reader = PlanReader {
-            alloc: self.alloc,
-            plan: &self.plan,
-            limits: &self.limits,
-        };
-        Ok(reader.chunk_buffer_layout(chunk)?.len)
+        Ok(self.by.reader().chunk_buffer_layout(chunk)?.len)
     }
 
     fn read(&mut self, chunk: u32, buffer: &mut [u8]) -> TiffResult<()> {
-        let reader = PlanReader {
-            alloc: self.alloc,
-            plan: &self.plan,
-            limits: &self.limits,
-        };
-        reader.read_chunk_bytes(&mut self.source, chunk, buffer)
+        self.by
+            .reader()
+            .read_chunk_bytes(&mut self.source, chunk, buffer)
     }
 }
 
@@ -420,17 +445,12 @@ pub(crate) fn planned_by<R: Source>(
     source: R,
     numbers: &PlannedPage,
 ) -> TiffResult<PlannedChunks<R>>
-    ensures plan { AnswersWithoutSource (λ chunks. chunks.plan) result (spec.plan_from numbers.now) }
+    ensures plan { AnswersWithoutSource (λ chunks. chunks.by.plan) result (spec.plan_from numbers.now) }
     ensures source { IfOk result (λ chunks. chunks.source ≡ source) }
-    ensures limits { IfOk result (λ chunks. chunks.limits ≡ unlimited) }
+    ensures limits { IfOk result (λ chunks. chunks.by.limits ≡ unlimited) }
 {
-    let plan = plan_from(numbers)?;
-    Ok(PlannedChunks {
-        source,
-        alloc,
-        plan,
-        limits: Limits::unlimited(),
-    })
+    let by = unlimited_plan(alloc, numbers)?;
+    Ok(PlannedChunks { source, by })
 }
 
 /// Reads the chunk with the number `chunk` into `buffer` by the numbers of a plan, under no limits.

@@ -6,11 +6,10 @@ ghost use Rattle.tiff_base.specs.Answers.{AnswersWithoutSource};
 ghost use Rattle.tiff_rewrite.specs.PlannedRewrite.{PlannedRewritten, planned_fault, planned_place};
 ghost use Rattle.tiff_ffi.specs.Rewrite as spec;
 
-use crate::plan::{PlannedPage, plan_from};
+use crate::plan::{PlannedPage, unlimited_plan};
 use std::alloc::Global;
 use tiff_base::error::TiffResult;
 use tiff_base::io::SliceSource;
-use tiff_ifd::limits::Limits;
 use tiff_pages::plan::PlanReader;
 use tiff_rewrite::planned::{planned_place, rewrite_planned};
 
@@ -47,14 +46,8 @@ pub fn chunk_place(
 ) -> TiffResult<PlacedChunk>
     ensures { AnswersWithoutSource (λ place. place) result (spec.chunk_place file.now plan.now chunk) }
 {
-    let plan = plan_from(plan)?;
-    let limits = Limits::unlimited();
-    let reader = PlanReader {
-        alloc,
-        plan: &plan,
-        limits: &limits,
-    };
-    place_by_plan(&reader, file, chunk)
+    let plan = unlimited_plan(alloc, plan)?;
+    place_by_plan(&plan.reader(), file, chunk)
 }
 
 // Makes the bytes of a chunk of a file in a slice from samples, by a plan.
@@ -95,12 +88,6 @@ pub fn rewrite_chunk(
         (spec.IsRewritten file.now plan.now chunk samples.now stored.old stored.new) }
     ensures refused { OnErr result (stored.new ≡ stored.old) }
 {
-    let plan = plan_from(plan)?;
-    let limits = Limits::unlimited();
-    let reader = PlanReader {
-        alloc,
-        plan: &plan,
-        limits: &limits,
-    };
-    rewrite_by_plan(&reader, file, chunk, samples, stored)
+    let plan = unlimited_plan(alloc, plan)?;
+    rewrite_by_plan(&plan.reader(), file, chunk, samples, stored)
 }

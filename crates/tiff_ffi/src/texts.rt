@@ -4,43 +4,27 @@ ghost use Rattle.std.specs.Prelude.{◌≡◌};
 ghost use Rattle.tiff_ffi.specs.Texts as texts;
 ghost use Rattle.tiff_ffi.specs.Texts.{PutsText};
 
-// What is told of a number that is no status.
-const NO_STATUS: &str = "no such status";
-
-// The text of a status of a call itself.
-fn call_text(number: u32) -> &'static str
-    ensures { result.now ≡ texts.call_text number }
+/// The text of a status, by its number. The text of a number that is no status says so.
+pub fn text_of(number: u32) -> &'static str
+    ensures { result.now ≡ texts.text_of number }
 {
     match number {
+        // Of a call itself.
         0 => "done",
         1 => "decoder limits exceeded",
         2 => "platform or format size limits exceeded",
         3 => "out of memory",
         4 => "an error that has no number yet",
         5 => "bytes of the file are wanted",
-        _ => NO_STATUS,
-    }
-}
 
-// The text of a status of an error of input or output.
-fn bytes_text(number: u32) -> &'static str
-    ensures { result.now ≡ texts.bytes_text number }
-{
-    match number {
+        // Of an error of input or output.
         10 => "unexpected end of file",
         11 => "invalid data",
         12 => "invalid input",
         13 => "write zero",
         14 => "device fault",
-        _ => NO_STATUS,
-    }
-}
 
-// The text of a status of an error of a file that doesn't have TIFF's form.
-fn form_text(number: u32) -> &'static str
-    ensures { result.now ≡ texts.form_text number }
-{
-    match number {
+        // Of an error of a file that doesn't have TIFF's form.
         20 => "TIFF signature not found",
         21 => "TIFF signature invalid",
         22 => "image file directory not found",
@@ -57,15 +41,8 @@ fn form_text(number: u32) -> &'static str
         33 => "file contained a cycle in the list of IFDs",
         34 => "samples per pixel is zero",
         35 => "compressed data is corrupt",
-        _ => NO_STATUS,
-    }
-}
 
-// The text of a status of an error for what is not supported.
-fn unsupported_text(number: u32) -> &'static str
-    ensures { result.now ≡ texts.unsupported_text number }
-{
-    match number {
+        // Of an error for what is not supported.
         40 => "floating point predictor is unsupported",
         41 => "horizontal predictor is unsupported for this color",
         42 => "inconsistent bits per sample",
@@ -82,15 +59,8 @@ fn unsupported_text(number: u32) -> &'static str
         53 => "unsupported photometric interpretation",
         54 => "chroma subsampling of YCbCr color is unsupported",
         55 => "tile rows are not aligned to byte boundaries",
-        _ => NO_STATUS,
-    }
-}
 
-// The text of a status of an error for a call that doesn't fit.
-fn usage_text(number: u32) -> &'static str
-    ensures { result.now ≡ texts.usage_text number }
-{
-    match number {
+        // Of an error for a call that doesn't fit.
         60 => "operation is only valid for the other kind of chunk",
         61 => "invalid chunk index",
         62 => "invalid plane index",
@@ -106,20 +76,8 @@ fn usage_text(number: u32) -> &'static str
         72 => "the length of data is not a multiple of the size of its type",
         73 => "the parent's link lies outside what was written",
         74 => "an earlier write failed",
-        _ => NO_STATUS,
-    }
-}
 
-/// The text of a status, by its number. The text of a number that is no status says so.
-pub fn text_of(number: u32) -> &'static str
-    ensures { result.now ≡ texts.text_of number }
-{
-    match number {
-        0..=9 => call_text(number),
-        10..=19 => bytes_text(number),
-        20..=39 => form_text(number),
-        40..=59 => unsupported_text(number),
-        _ => usage_text(number),
+        _ => "no such status",
     }
 }
 

@@ -1,7 +1,6 @@
 -- Pages that are read whole.
 use Rattle.std.proofs.Common.{◌≡◌, ℕ, suc, ◌+◌, ◌<◌, List, [], ◌∷◌, ◌++◌, length, map, take, Option, None, Some, Result, Ok, Err, refl, ap, sym, ◌∙◌, subst, arith}
 use Rattle.std.proofs.lemmas.List.{map-append}
-use Rattle.std.proofs.Math.Seq.{take-length}
 use Rattle.std.specs.Prelude.{unwrap_or}
 use Rattle.std.specs.List.{slice_get}
 use Rattle.tiff_base.specs.declared.error.TiffError.{TiffError}
@@ -19,6 +18,7 @@ use Rattle.tiff_pages.specs.Pages.{IsOfFile, Pages, pages_in, pages_of, state_al
 use Rattle.tiff_pages.specs.declared.check.ImageSum.{ImageSum}
 use Rattle.tiff_pages.specs.declared.check.PageCheck.{PageCheck}
 use Rattle.tiff_pages.specs.Check.{Checks, IsCheckOf, ReadsPage, check_at, checks_of, image_sum}
+use Rattle.tiff_pages.proofs.Read.{IsRead, shows_page}
 
 abbrev Answer : Type 0
 Answer = Result (Unit {0}) TiffError
@@ -115,40 +115,19 @@ ShowsPage old new offset = (page_at old offset ≡ Ok new.state.page) × SameFil
 abbrev page_result : PageRecord → Result PageRecord TiffError
 page_result page = Ok page
 
-shown_page : (old new : Decoding) (offset : ℕ) (u : Unit {0}) (directory : DirectoryRecord)
-    (page : Result PageRecord TiffError)
-    → directory_at old.kind old.order old.bytes offset ≡ Ok directory
-    → page_in old.kind old.order old.bytes old.state.limits directory ≡ page
-    → (with_page old.state directory page).answer ≡ Ok u
-    → new ≡ record old { state = (with_page old.state directory page).next }
-    → ShowsPage old new offset
-shown_page old new offset u directory (Err e) r q a n = absurd (cc)
-shown_page old new offset u directory (Ok page) r q a n = (
+is_shown : (old new : Decoding) (offset : ℕ) → IsRead old new offset → ShowsPage old new offset
+is_shown old new offset s = (
   ap (λ (x : Result DirectoryRecord TiffError). x
-      >>= page_in old.kind old.order old.bytes old.state.limits) r ∙ q
-      ∙ ap page_result (sym (ap (λ (d : Decoding). d.state.page) n)),
+      >>= page_in old.kind old.order old.bytes old.state.limits) s.found ∙ s.shown
+      ∙ ap page_result (sym (ap (λ (d : Decoding). d.state.page) s.left)),
   record {
-    bytes = ap (λ (d : Decoding). d.bytes) n;
-    kind = ap (λ (d : Decoding). d.kind) n;
-    order = ap (λ (d : Decoding). d.order) n;
-    first = ap (λ (d : Decoding). d.first) n;
-    limits = ap (λ (d : Decoding). d.state.limits) n;
+    bytes = ap (λ (d : Decoding). d.bytes) s.left;
+    kind = ap (λ (d : Decoding). d.kind) s.left;
+    order = ap (λ (d : Decoding). d.order) s.left;
+    first = ap (λ (d : Decoding). d.first) s.left;
+    limits = ap (λ (d : Decoding). d.state.limits) s.left;
   },
 )
-
-shown_directory : (old new : Decoding) (offset : ℕ) (u : Unit {0}) (read : Result DirectoryRecord TiffError)
-    → directory_at old.kind old.order old.bytes offset ≡ read
-    → (show_outcome old read).answer ≡ Ok u
-    → new ≡ record old { state = (show_outcome old read).next } → ShowsPage old new offset
-shown_directory old new offset u (Err e) r a n = absurd (cc)
-shown_directory old new offset u (Ok directory) r a n =
-    shown_page old new offset u directory (page_in old.kind old.order old.bytes old.state.limits directory) r refl a n
-
-shown_here : (place : IfdPointer) (u : Unit {0}) (old new : Decoding)
-    → Follows (λ x. x) (show_directory old place) (Ok u) old new → ShowsPage old new place.0
-unfolding show_directory
-shown_here place u old new h =
-    shown_directory old new place.0 u (directory_at old.kind old.order old.bytes place.0) refl h.answer h.at
 
 -- The image of a page that is shown was read.
 pub image_shown : (old new last : Decoding) (place : IfdPointer) (u : Unit {0})
@@ -159,7 +138,7 @@ pub image_shown : (old new last : Decoding) (place : IfdPointer) (u : Unit {0})
     → record { place = place; image = image } ≡ check_at old place.0
 image_shown old new last place u answer shown r image k t h reads told =
     let P : Answer → Type 0 = λ x. Follows (λ y. y) (show_directory old place) x old new in
-    let s = shown_here place u old new (subst P (sym k.0 ∙ t) h) in
+    let s = is_shown old new place.0 (shows_page place u old new (subst P (sym k.0 ∙ t) h)) in
     let is : (page_at old place.0 >>= image_sum old) ≡ image =
     ap (λ (p : Result PageRecord TiffError). p >>= image_sum old) s.0
     ∙ sym (sum_of_file old new new.state.page s.1)

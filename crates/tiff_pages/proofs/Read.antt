@@ -109,39 +109,52 @@ shows_by x old new page directory h =
       refused = tt;
     }
 
-page_shown : (old new : Decoding) (offset : ℕ) (u : Unit {0}) (directory : DirectoryRecord)
+-- The directory and the page at an offset were read, and a decoder is at them.
+pub record IsRead (old new : Decoding) (offset : ℕ) : Type 0 where
+  pub directory : DirectoryRecord
+  pub page : PageRecord
+  pub found : directory_at old.kind old.order old.bytes offset ≡ Ok directory
+  pub shown : page_in old.kind old.order old.bytes old.state.limits directory ≡ Ok page
+  pub left : new ≡ record old { state = record old.state { page = page; directory = directory } }
+
+page_read : (old new : Decoding) (offset : ℕ) (u : Unit {0}) (directory : DirectoryRecord)
     (page : Result PageRecord TiffError)
     → directory_at old.kind old.order old.bytes offset ≡ Ok directory
     → page_in old.kind old.order old.bytes old.state.limits directory ≡ page
     → (with_page old.state directory page).answer ≡ Ok u
     → new ≡ record old { state = (with_page old.state directory page).next }
-    → IsShown old new offset
-page_shown old new offset u directory (Err e) r q a n = absurd (cc)
-page_shown old new offset u directory (Ok page) r q a n =
-    let P : Decoding → Type 0 = λ d. HasItsPage d in
-    record {
-      page = subst P (sym n) q;
-      facts =
-          ap (λ (x : Result DirectoryRecord TiffError). x
-          >>= page_in old.kind old.order old.bytes old.state.limits >>= λ p. Ok (facts_of p)) r
-          ∙ ap (λ (x : Result PageRecord TiffError). x >>= λ p. Ok (facts_of p)) q
-          ∙ (let told : Facts = Ok (facts_of new.state.page) in let given : Facts = Ok (facts_of page) in let e : given ≡ told = sym (ap (λ (d : Decoding). facts_told (Ok tt) d.state.page) n) in e);
-      shows = shows_by tt old new page directory n;
-    }
+    → IsRead old new offset
+page_read old new offset u directory (Err e) r q a n = absurd (cc)
+page_read old new offset u directory (Ok page) r q a n =
+    record { directory = directory; page = page; found = r; shown = q; left = n }
 
-directory_shown : (old new : Decoding) (offset : ℕ) (u : Unit {0}) (read : Result DirectoryRecord TiffError)
+directory_read : (old new : Decoding) (offset : ℕ) (u : Unit {0}) (read : Result DirectoryRecord TiffError)
     → directory_at old.kind old.order old.bytes offset ≡ read
     → (show_outcome old read).answer ≡ Ok u
-    → new ≡ record old { state = (show_outcome old read).next } → IsShown old new offset
-directory_shown old new offset u (Err e) r a n = absurd (cc)
-directory_shown old new offset u (Ok directory) r a n =
-    page_shown old new offset u directory (page_in old.kind old.order old.bytes old.state.limits directory) r refl a n
+    → new ≡ record old { state = (show_outcome old read).next } → IsRead old new offset
+directory_read old new offset u (Err e) r a n = absurd (cc)
+directory_read old new offset u (Ok directory) r a n =
+    page_read old new offset u directory (page_in old.kind old.order old.bytes old.state.limits directory) r refl a n
 
-shown_by : (place : IfdPointer) (u : Unit {0}) (old new : Decoding)
-    → Follows (λ x. x) (show_directory old place) (Ok u) old new → IsShown old new place.0
+-- A call that shows a directory reads its page.
+pub shows_page : (place : IfdPointer) (u : Unit {0}) (old new : Decoding)
+    → Follows (λ x. x) (show_directory old place) (Ok u) old new → IsRead old new place.0
 unfolding show_directory
-shown_by place u old new h =
-    directory_shown old new place.0 u (directory_at old.kind old.order old.bytes place.0) refl h.answer h.at
+shows_page place u old new h =
+    directory_read old new place.0 u (directory_at old.kind old.order old.bytes place.0) refl h.answer h.at
+
+is_shown : (old new : Decoding) (offset : ℕ) → IsRead old new offset → IsShown old new offset
+is_shown old new offset s =
+    let P : Decoding → Type 0 = λ d. HasItsPage d in
+    record {
+      page = subst P (sym s.left) s.shown;
+      facts =
+          ap (λ (x : Result DirectoryRecord TiffError). x
+          >>= page_in old.kind old.order old.bytes old.state.limits >>= λ p. Ok (facts_of p)) s.found
+          ∙ ap (λ (x : Result PageRecord TiffError). x >>= λ p. Ok (facts_of p)) s.shown
+          ∙ (let told : Facts = Ok (facts_of new.state.page) in let given : Facts = Ok (facts_of s.page) in let e : given ≡ told = sym (ap (λ (d : Decoding). facts_told (Ok tt) d.state.page) s.left) in e);
+      shows = shows_by tt old new s.page s.directory s.left;
+    }
 
 pub shown : (r told : Result (Unit {0}) TiffError) (u : Unit {0}) (place : IfdPointer)
     (old new : Decoding) → (told ≡ r) × IsOfFile r → told ≡ Ok u
@@ -149,7 +162,7 @@ pub shown : (r told : Result (Unit {0}) TiffError) (u : Unit {0}) (place : IfdPo
 shown r told u place old new k t h =
     let P : Result (Unit {0}) TiffError → Type 0 =
     λ x. Follows (λ y. y) (show_directory old place) x old new in
-    shown_by place u old new (subst P (sym k.0 ∙ t) h)
+    is_shown old new place.0 (shows_page place u old new (subst P (sym k.0 ∙ t) h))
 
 abbrev told_error : TiffError → Facts
 told_error e = Err e

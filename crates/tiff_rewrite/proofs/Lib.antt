@@ -2,3 +2,4 @@ pub mod NumberPlaces
 pub mod RowBack
 pub mod RowsBack
 pub mod PlannedPut
+pub mod Refused

@@ -6,19 +6,16 @@ use Rattle.std.proofs.Math.Seq.{take-length}
 use Rattle.std.specs.Prelude.{is_err, is_ok}
 use Rattle.std.specs.Result.{IsErrAnd}
 use Rattle.tiff_base.specs.declared.error.TiffError.{TiffError}
-use Rattle.tiff_base.specs.declared.error.TiffError.TheVariants.{OutOfMemory}
 use Rattle.tiff_base.specs.declared.windows.Stretch.{Stretch}
 use Rattle.tiff_base.specs.declared.windows.Windows.{Windows}
 use Rattle.tiff_base.specs.Answers.{◌>>=◌, AnswersWithoutSource}
 use Rattle.tiff_base.specs.Windows.{AreWindowsOf, IsWanted, IsWindowOf, file_of}
 use Rattle.tiff_base.specs.lemmas.Causes.{cause_along}
 use Rattle.tiff_base.specs.lemmas.Seen.{same_file}
-use Rattle.tiff_pages.specs.declared.check.FileCheck.{FileCheck}
 use Rattle.tiff_pages.specs.declared.check.PageCheck.{PageCheck}
 use Rattle.tiff_pages.specs.declared.lines.Lines.{Lines}
 use Rattle.tiff_ifd.specs.declared.limits.Limits.{Limits}
 use Rattle.tiff_pages.specs.declared.pages.PageItem.{PageItem}
-use Rattle.tiff_pages.specs.declared.tree.DirectoryList.{DirectoryList}
 use Rattle.tiff_pages.specs.Check.{Checks, are_well, check_at, checks_in, checks_of}
 use Rattle.tiff_decode.specs.Machine.{Decoding}
 use Rattle.tiff_decode.specs.Opened.{opened_of}
@@ -26,7 +23,6 @@ use Rattle.tiff_decode.specs.Outcome.{chain_of}
 use Rattle.tiff_pages.specs.OfFile.{check_of, list_of, tree_of, under}
 use Rattle.tiff_pages.specs.Pages.{Pages, item_at, pages_of}
 use Rattle.tiff_pages.specs.Tree.{directories_in}
-use Rattle.tiffpage_lib.specs.lemmas.Memory.{memory_out}
 use Rattle.tiffpage_lib.specs.declared.failure.Failure.{Failure}
 use Rattle.tiffpage_lib.specs.declared.failure.Failure.TheVariants as failure
 use Rattle.tiffpage_lib.specs.Check.{checks_under, told_under}

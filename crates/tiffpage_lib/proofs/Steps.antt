@@ -39,6 +39,12 @@ pub fails : {F A : Type 0} (given : Result A TiffError → Type 0) (files : F) (
     → given (Err e) → Makes given files (Err (failure.Tiff e)) files
 fails given files e h = record { answer = Err e; may = h; is = refl; files = refl }
 
+pub gives_lines : {F A : Type 0} (given : Result A TiffError → Type 0) (files : F)
+    (answer : Result A TiffError) (result : Result A Failure) → given answer
+    → result ≡ result_map_both (λ x. x) (λ e. failure.Tiff e) answer → Makes given files result files
+gives_lines given files answer result h is =
+    record { answer = answer; may = h; is = is; files = refl }
+
 -- The same of a result that is seen by `view`.
 pub stops_seen : {F A B C : Type 0} (first : F → Result A Failure → F → Type 0)
     (next : A → F → Result B Failure → F → Type 0) (view : C → B) (old new : F) (e : Failure)

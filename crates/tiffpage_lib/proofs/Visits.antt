@@ -117,6 +117,23 @@ given_there given old mid k same file at =
     ap given (file ∙ ap (λ (s : State). record old { failures = mid.failures; state = s }) at)
     ∙ same (page_decoder old k) mid.failures
 
+-- A seek that is not refused, and a result at the page.
+pub seek_then : {X Y : Type 0} (view : X → Y) (given : Decoding → Result Y TiffError)
+    (old mid : Decoding) (k : ℕ) (u : Unit {0}) (r : Result X TiffError) (failures : ℕ)
+    → ((d : Decoding) (n : ℕ) → given (record d { failures = n }) ≡ given d)
+    → Follows (λ u. u) (outcome.seek_to_image old k) (Ok u) old mid
+    → Answers view r (given mid) mid.failures failures
+    → Answers view r (at_page given old k) old.failures failures
+seek_then view given old mid k u r failures same f a =
+    let t : IsTold (λ u. u) (outcome.seek_to_image old k) (Ok u) old mid =
+    told (Unit {0}) (λ u. u) (outcome.seek_to_image old k) (Ok u) old mid f in
+    let there : given mid ≡ at_page given old k =
+    given_there given old mid k same t.file (t.next tt).1
+    ∙ ap (λ (a : Result (Unit {0}) TiffError). a
+    >>= λ _. given (page_decoder old k)) (t.next tt).0 in
+    answers_along view r (given mid) (at_page given old k) old.failures mid.failures failures there
+    (omega (arith, t.failed)) a
+
 -- A seek, and a call that stays at the page.
 pub visit : {X Y : Type 0} (view : X → Y) (given : Decoding → Result Y TiffError)
     (old mid new : Decoding) (k : ℕ) (x : Result (Unit {0}) TiffError) (y : Result X TiffError)
@@ -126,13 +143,8 @@ pub visit : {X Y : Type 0} (view : X → Y) (given : Decoding → Result Y TiffE
 visit view given old mid new k (Ok u) y same f m =
     let t : IsTold (λ u. u) (outcome.seek_to_image old k) (Ok u) old mid =
     told (Unit {0}) (λ u. u) (outcome.seek_to_image old k) (Ok u) old mid f in
-    let there : given mid ≡ at_page given old k =
-    given_there given old mid k same t.file (t.next tt).1
-    ∙ ap (λ (a : Result (Unit {0}) TiffError). a
-    >>= λ _. given (page_decoder old k)) (t.next tt).0 in
     record {
-      answer =
-          answers_along view y (given mid) (at_page given old k) old.failures mid.failures new.failures there (omega (arith, t.failed)) m.answer;
+      answer = seek_then view given old mid k u y new.failures same f m.answer;
       file = file_along old mid new t.file m.kept;
       failures = omega (arith, t.failed, m.failures);
       stands = λ _. ap (λ (d : Decoding). d.state) m.kept ∙ (t.next tt).1;
@@ -251,23 +263,6 @@ listing_visit view old mid new k p r same v m =
     (λ e. (let P : Option IfdPointer → Type 0 = λ o. Moves view (listing_at mid o) r mid new in
     let q : mid.state.pointer ≡ p = cc e in subst P (sym q) m))
     (λ d n. refl)
-
--- A seek that is not refused, and a result at the page.
-pub seek_then : {X Y : Type 0} (view : X → Y) (given : Decoding → Result Y TiffError)
-    (old mid : Decoding) (k : ℕ) (u : Unit {0}) (r : Result X TiffError) (failures : ℕ)
-    → ((d : Decoding) (n : ℕ) → given (record d { failures = n }) ≡ given d)
-    → Follows (λ u. u) (outcome.seek_to_image old k) (Ok u) old mid
-    → Answers view r (given mid) mid.failures failures
-    → Answers view r (at_page given old k) old.failures failures
-seek_then view given old mid k u r failures same f a =
-    let t : IsTold (λ u. u) (outcome.seek_to_image old k) (Ok u) old mid =
-    told (Unit {0}) (λ u. u) (outcome.seek_to_image old k) (Ok u) old mid f in
-    let there : given mid ≡ at_page given old k =
-    given_there given old mid k same t.file (t.next tt).1
-    ∙ ap (λ (a : Result (Unit {0}) TiffError). a
-    >>= λ _. given (page_decoder old k)) (t.next tt).0 in
-    answers_along view r (given mid) (at_page given old k) old.failures mid.failures failures there
-    (omega (arith, t.failed)) a
 
 -- A seek that is refused.
 pub seek_refused : {X Y : Type 0} (view : X → Y) (given : Decoding → Result Y TiffError)

@@ -1,11 +1,11 @@
 -- Words of a command line.
-use Rattle.std.proofs.Common.{◌≡◌, ℕ, ◌+◌, ◌*◌, ◌<◌, ◌≤◌, inl, inr, true, List, [], ◌∷◌, length, map, slice_index_or, Option, None, Some, IfNone, ap, refl, sym, subst, ◌∙◌, arith}
+use Rattle.std.proofs.Common.{◌≡◌, ℕ, ◌+◌, ◌*◌, ◌<◌, ◌≤◌, inl, inr, Bool, true, false, List, [], ◌∷◌, length, map, slice_index_or, Option, None, Some, IfNone, ap, refl, sym, subst, ◌∙◌, arith}
 use Rattle.std.proofs.lemmas.Bool.{eqb-true}
 use Rattle.std.specs.Prelude.{◌==◌, String, codes, slice_index, string_bytes}
 use Rattle.std.specs.declared.alloc.Global.{Global}
 use Rattle.tiffpage_lib.specs.declared.command.Command.{Command}
 use Rattle.tiffpage_lib.specs.declared.command.Command.TheVariants as command
-use Rattle.tiffpage_lib.specs.Words.{AskForLimit, AskForPlanesLast, IsAppend, IsAsked, IsCalls, IsCheck, IsDirectories, IsGray, IsHelp, IsJobs, IsList, IsNumber, IsRaw, IsTags, IsView}
+use Rattle.tiffpage_lib.specs.Words.{AskForLimit, AskForPlanesLast, IsAppend, IsAsked, IsCalls, IsCheck, IsDirectories, IsGray, IsJobs, IsList, IsNumber, IsRaw, IsTags, IsView}
 
 -- The bytes of the words, if there is one word.
 pub one_word : (words : List (String Global)) (word : String Global) (text : List ℕ)
@@ -71,74 +71,47 @@ planes_last words after behind more name count planes limit at then last end nam
     ∙ ap (λ (w : List (String Global)). count ∷ w) (last ∙ ap (λ (w : List (String Global)). planes ∷ w) end)) in
     subst P (sym all) (named, number, asked, refl)
 
--- If words ask for no command of a name, they ask for none.
-pub none_by : (P Q : Command → Type 0) → ((c : Command) → Q c → P c) → (r : Option Command)
-    → IfNone r ((c : Command) → ¬ P c)
-    → IfNone r ((c : Command) → ¬ Q c)
-none_by P Q f None h = λ c q. h c (f c q)
-none_by P Q f (Some c) h = h
-
 -- The first three letters of a name, as a number: no two commands have the same.
 abbrev key : List ℕ → ℕ
 key name = slice_index name 0 * 65536 + (slice_index name 1 * 256 + slice_index name 2)
 
+abbrev Chosen : Bool → Type 0 → Type 0 → Type 0
+Chosen true this other = this
+Chosen false this other = other
+
+-- What holds of a command that a name asks for, if it is the name of a command with words.
+abbrev pub IsNamed : List ℕ → List (List ℕ) → Command → Type 0
+IsNamed name words c =
+    Chosen (key name == key (codes "raw")) (IsRaw words c)
+    (Chosen (key name == key (codes "view")) (IsView words c)
+    (Chosen (key name == key (codes "check")) (IsCheck words c)
+    (Chosen (key name == key (codes "jobs")) (IsJobs words c)
+    (Chosen (key name == key (codes "gray")) (IsGray words c)
+    (Chosen (key name == key (codes "tags")) (IsTags words c)
+    (Chosen (key name == key (codes "list")) (IsList words c)
+    (Chosen (key name == key (codes "directories")) (IsDirectories words c)
+    (Chosen (key name == key (codes "calls")) (IsCalls words c)
+    (Chosen (key name == key (codes "append")) (IsAppend words c) (Unit {0}))))))))))
+
 -- A name asks for no command of another name.
-pub raw_alone : (words : List (List ℕ)) (c : Command) → IsAsked (codes "raw") words c → IsRaw words c
-raw_alone words (command.Raw i p o q l) h = h.1
-raw_alone words command.Help h =
-    elim h.0 [ inl e ↦ absurd (omega (arith, ap key e)) | inr e ↦ absurd (omega (arith, ap key e)) ]
-raw_alone words c h = absurd (omega (arith, ap key h.0))
+named : (name : List ℕ) (words : List (List ℕ)) (c : Command) → IsAsked name words c
+    → IsNamed name words c
+named name words (command.Raw input page output planes limit) h = rw h.0 h.1
+named name words (command.View input page output) h = rw h.0 h.1
+named name words (command.Check input limit) h = rw h.0 h.1
+named name words (command.Jobs output kind keep_going) h = rw h.0 h.1
+named name words (command.Gray output width height input) h = rw h.0 h.1
+named name words (command.Tags input page) h = rw h.0 h.1
+named name words (command.List input) h = rw h.0 h.1
+named name words (command.Directories input) h = rw h.0 h.1
+named name words (command.Calls input) h = rw h.0 h.1
+named name words (command.Append file) h = rw h.0 h.1
+named name words command.Help h = elim h.0 [ inl e ↦ rw e tt | inr e ↦ rw e tt ]
+named name words command.Version h = rw h.0 tt
 
-pub view_alone : (words : List (List ℕ)) (c : Command) → IsAsked (codes "view") words c → IsView words c
-view_alone words (command.View i p o) h = h.1
-view_alone words command.Help h =
-    elim h.0 [ inl e ↦ absurd (omega (arith, ap key e)) | inr e ↦ absurd (omega (arith, ap key e)) ]
-view_alone words c h = absurd (omega (arith, ap key h.0))
-
-pub check_alone : (words : List (List ℕ)) (c : Command) → IsAsked (codes "check") words c → IsCheck words c
-check_alone words (command.Check i l) h = h.1
-check_alone words command.Help h =
-    elim h.0 [ inl e ↦ absurd (omega (arith, ap key e)) | inr e ↦ absurd (omega (arith, ap key e)) ]
-check_alone words c h = absurd (omega (arith, ap key h.0))
-
-pub jobs_alone : (words : List (List ℕ)) (c : Command) → IsAsked (codes "jobs") words c → IsJobs words c
-jobs_alone words (command.Jobs o k g) h = h.1
-jobs_alone words command.Help h =
-    elim h.0 [ inl e ↦ absurd (omega (arith, ap key e)) | inr e ↦ absurd (omega (arith, ap key e)) ]
-jobs_alone words c h = absurd (omega (arith, ap key h.0))
-
-pub gray_alone : (words : List (List ℕ)) (c : Command) → IsAsked (codes "gray") words c → IsGray words c
-gray_alone words (command.Gray o w t i) h = h.1
-gray_alone words command.Help h =
-    elim h.0 [ inl e ↦ absurd (omega (arith, ap key e)) | inr e ↦ absurd (omega (arith, ap key e)) ]
-gray_alone words c h = absurd (omega (arith, ap key h.0))
-
-pub tags_alone : (words : List (List ℕ)) (c : Command) → IsAsked (codes "tags") words c → IsTags words c
-tags_alone words (command.Tags i p) h = h.1
-tags_alone words command.Help h =
-    elim h.0 [ inl e ↦ absurd (omega (arith, ap key e)) | inr e ↦ absurd (omega (arith, ap key e)) ]
-tags_alone words c h = absurd (omega (arith, ap key h.0))
-
-pub list_alone : (words : List (List ℕ)) (c : Command) → IsAsked (codes "list") words c → IsList words c
-list_alone words (command.List i) h = h.1
-list_alone words command.Help h =
-    elim h.0 [ inl e ↦ absurd (omega (arith, ap key e)) | inr e ↦ absurd (omega (arith, ap key e)) ]
-list_alone words c h = absurd (omega (arith, ap key h.0))
-
-pub directories_alone : (words : List (List ℕ)) (c : Command) → IsAsked (codes "directories") words c → IsDirectories words c
-directories_alone words (command.Directories i) h = h.1
-directories_alone words command.Help h =
-    elim h.0 [ inl e ↦ absurd (omega (arith, ap key e)) | inr e ↦ absurd (omega (arith, ap key e)) ]
-directories_alone words c h = absurd (omega (arith, ap key h.0))
-
-pub calls_alone : (words : List (List ℕ)) (c : Command) → IsAsked (codes "calls") words c → IsCalls words c
-calls_alone words (command.Calls i) h = h.1
-calls_alone words command.Help h =
-    elim h.0 [ inl e ↦ absurd (omega (arith, ap key e)) | inr e ↦ absurd (omega (arith, ap key e)) ]
-calls_alone words c h = absurd (omega (arith, ap key h.0))
-
-pub append_alone : (words : List (List ℕ)) (c : Command) → IsAsked (codes "append") words c → IsAppend words c
-append_alone words (command.Append f) h = h.1
-append_alone words command.Help h =
-    elim h.0 [ inl e ↦ absurd (omega (arith, ap key e)) | inr e ↦ absurd (omega (arith, ap key e)) ]
-append_alone words c h = absurd (omega (arith, ap key h.0))
+-- Words that ask for no command of the kind that a name has ask for none by this name.
+pub none_named : (name : List ℕ) (words : List (List ℕ)) (found : Option Command)
+    → IfNone found ((c : Command) → ¬ IsNamed name words c)
+    → IfNone found ((c : Command) → ¬ IsAsked name words c)
+none_named name words None h = λ c q. h c (named name words c q)
+none_named name words (Some c) h = h

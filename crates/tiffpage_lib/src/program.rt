@@ -372,6 +372,13 @@ fn list_page<'a, F: Files>(
     Ok(told(entries))
 }
 
+// The lines of a file, or its error.
+fn told_lines<'a>(lines: TiffResult<Lines>) -> Result<Lines, Failure<'a>>
+    ensures { result ≡ result_map_both (λ x. x) (λ e. failure.Tiff e) lines }
+{
+    lines.map_err(|fault| Failure::Tiff(fault))
+}
+
 // The pages of a file, one line for each.
 fn list_pages<'a, F: Files>(
     alloc: Global,
@@ -381,7 +388,7 @@ fn list_pages<'a, F: Files>(
     ensures { Tells F.reads told_of_list input.entry files.old result files.new }
 {
     let file = read(files, input)?;
-    Ok(file_list(alloc, file)?)
+    told_lines(file_list(alloc, file))
 }
 
 // The length of a file that is to be read by parts; `None` for one that is to be read whole.
@@ -404,7 +411,7 @@ fn whole_directories<'a, F: Files>(
     ensures { Tells F.reads told_of_directories input.entry files.old result files.new }
 {
     let file = read(files, input)?;
-    Ok(file_directories(alloc, file)?)
+    told_lines(file_directories(alloc, file))
 }
 
 // The directories of a file that the chain and the tags reach, one line for each.
@@ -432,7 +439,7 @@ fn check_whole<'a, F: Files>(
     ensures { Tells F.reads (told_under limits) input.entry files.old result files.new }
 {
     let file = read(files, input)?;
-    Ok(file_check(alloc, file, limits)?)
+    told_lines(file_check(alloc, file, limits))
 }
 
 // The pages of a file, each read whole, one line for each.

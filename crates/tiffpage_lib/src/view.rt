@@ -78,33 +78,21 @@ fn shape_of(sides: (u32, u32), color: ColorType, planes: usize) -> TiffResult<Sh
 fn top_of_16(alloc: Global, numbers: &[u16]) -> Result<Vec<u8>, AllocError>
     ensures { IfOk result (λ v. v.items ≡ without_low 8 numbers.now) }
 {
-    let mut top = Vec::with_capacity(alloc, numbers.len())?;
-    for number in numbers {
-        top.push((*number / 0x100) as u8)?;
-    }
-    Ok(top)
+    numbers.iter().map(|n| (*n >> 8) as u8).collect(alloc)
 }
 
 // The highest byte of each number of 32 bits.
 fn top_of_32(alloc: Global, numbers: &[u32]) -> Result<Vec<u8>, AllocError>
     ensures { IfOk result (λ v. v.items ≡ without_low 24 numbers.now) }
 {
-    let mut top = Vec::with_capacity(alloc, numbers.len())?;
-    for number in numbers {
-        top.push((*number / 0x100_0000) as u8)?;
-    }
-    Ok(top)
+    numbers.iter().map(|n| (*n >> 24) as u8).collect(alloc)
 }
 
 // The highest byte of each number of 64 bits.
 fn top_of_64(alloc: Global, numbers: &[u64]) -> Result<Vec<u8>, AllocError>
     ensures { IfOk result (λ v. v.items ≡ without_low 56 numbers.now) }
 {
-    let mut top = Vec::with_capacity(alloc, numbers.len())?;
-    for number in numbers {
-        top.push((*number / 0x100_0000_0000_0000) as u8)?;
-    }
-    Ok(top)
+    numbers.iter().map(|n| (*n >> 56) as u8).collect(alloc)
 }
 
 // The bytes that the picture shows of samples.

@@ -1,4 +1,4 @@
-use Rattle.std.proofs.Common.{◌≡◌, true, false, Err, rules}
+use Rattle.std.proofs.Common.{◌≡◌, Err, rules}
 use Rattle.tiff_uses.specs.Pages.{page_sides}
 use Rattle.tiff_uses.proofs.Standing.{all_sides, begun, fewer_left, first_listed, next_listed, refused_next, sides_told_always}
 use Rattle.tiff_uses.proofs.sides_along.Goals as goal
@@ -10,17 +10,13 @@ pages-init c =
 
 pub pages-preserved : goal.pages-preserved
 pages-preserved c =
-    let more : c.pages.decoder.state.more ≡ true =
-    (let e = c.more_images.ensures in let t = c.pages-test.true in cc) in
     next_listed c.walk_goes_on.ensures (begun c.args.decoder.now) c.pages.decoder c.next_image.new.self c.dimensions-in-pages.new.self c.in_ok-dimensions-2.field-0
-    c.pages.sides.items c.push-in-pages.new.self.items c.pages.invariant more c.in_ok-next_image.ensures.follows c.in_ok-dimensions-2.ensures c.in_ok-push-2.ensures.items
+    c.pages.sides.items c.push-in-pages.new.self.items c.pages.invariant (cc (c.more_images.ensures, c.pages-test.true)) c.in_ok-next_image.ensures.follows c.in_ok-dimensions-2.ensures c.in_ok-push-2.ensures.items
 
 pub pages-smaller : goal.pages-smaller
 pages-smaller c =
-    let more : c.pages.decoder.state.more ≡ true =
-    (let e = c.more_images.ensures in let t = c.pages-test.true in cc) in
     fewer_left c.walk_goes_on.ensures (begun c.args.decoder.now) c.pages.decoder c.next_image.new.self c.dimensions-in-pages.new.self c.in_ok-dimensions-2.field-0
-    c.pages.sides.items c.push-in-pages.new.self.items c.pages.invariant more c.in_ok-next_image.ensures.follows c.in_ok-dimensions-2.ensures c.in_ok-push-2.ensures.items
+    c.pages.sides.items c.push-in-pages.new.self.items c.pages.invariant (cc (c.more_images.ensures, c.pages-test.true)) c.in_ok-next_image.ensures.follows c.in_ok-dimensions-2.ensures c.in_ok-push-2.ensures.items
 
 pub returns-in_err-dimensions : goal.returns-in_err-dimensions
 returns-in_err-dimensions c =
@@ -32,11 +28,9 @@ returns-in_err-dimensions c =
 
 pub returns-in_err-next_image : goal.returns-in_err-next_image
 returns-in_err-next_image c =
-    let more : c.pages.decoder.state.more ≡ true =
-    (let e = c.more_images.ensures in let t = c.pages-test.true in cc) in
     let told =
     refused_next c.walk_goes_on.ensures c.args.decoder.now.bytes (begun c.args.decoder.now) c.pages.decoder c.next_image.new.self c.pages.sides.items _
-    c.in_err-next_image.field-0.0 c.requires c.pages.invariant more c.in_err-next_image.ensures.follows in
+    c.in_err-next_image.field-0.0 c.requires c.pages.invariant (cc (c.more_images.ensures, c.pages-test.true)) c.in_err-next_image.ensures.follows in
     search rules
 
 pub returns-in_err-dimensions-2 : goal.returns-in_err-dimensions-2
@@ -49,6 +43,5 @@ returns-in_err-dimensions-2 c =
 
 pub returns : goal.returns
 returns c =
-    let ended : c.pages.decoder.state.more ≡ false =
-    (let e = c.more_images.ensures in let t = c.pages-test.false in cc) in
-    all_sides c.walk_ends.ensures c.args.decoder.now.bytes (begun c.args.decoder.now) c.pages.decoder c.pages.sides.items c.requires c.pages.invariant ended
+    all_sides c.walk_ends.ensures c.args.decoder.now.bytes (begun c.args.decoder.now) c.pages.decoder c.pages.sides.items c.requires c.pages.invariant
+    (cc (c.more_images.ensures, c.pages-test.false))

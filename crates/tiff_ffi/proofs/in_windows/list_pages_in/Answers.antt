@@ -1,12 +1,8 @@
 use Rattle.tiff_pages.specs.OfFile.{list_of}
 use Rattle.tiff_ffi.specs.List.{ListTells}
 use Rattle.tiff_base.specs.Windows.{file_of}
-use Rattle.tiff_ffi.proofs.SeenFiles.{of_order, tells_of}
+use Rattle.tiff_ffi.proofs.SeenFiles.{tells_of}
 use Rattle.tiff_ffi.proofs.in_windows.list_pages_in.Goals as goal
-
-pub pages_seen-requires : goal.pages_seen-requires
-pages_seen-requires g c =
-    record { of = of_order c.args.seen.now c.in-Some.windows.seen (c.in-Some.ensures).order.0 (c.in-Some.ensures).file g.file }
 
 pub returns-in-Ok : goal.returns-in-Ok
 returns-in-Ok g c =

@@ -2,12 +2,8 @@ use Rattle.tiff_base.specs.Windows.{file_of}
 use Rattle.tiff_ffi.specs.InWindows.{list_tags}
 use Rattle.tiff_ffi.specs.Status.{StatusPuts}
 use Rattle.tiff_ffi.proofs.StatusTells.{puts_both}
-use Rattle.tiff_ffi.proofs.SeenFiles.{of_order, tells_of}
+use Rattle.tiff_ffi.proofs.SeenFiles.{tells_of}
 use Rattle.tiff_ffi.proofs.in_windows.list_tags_in.Goals as goal
-
-pub entries_seen-requires : goal.entries_seen-requires
-entries_seen-requires g c =
-    record { of = of_order c.args.seen.now c.in-Some.windows.seen (c.in-Some.ensures).order.0 (c.in-Some.ensures).file g.file }
 
 pub returns-in-Ok : goal.returns-in-Ok
 returns-in-Ok g c =

@@ -4,12 +4,8 @@ use Rattle.tiff_ffi.specs.Status.{StatusPuts}
 use Rattle.tiff_base.specs.Windows.{file_of}
 use Rattle.tiff_ffi.proofs.StatusTells.{puts_told}
 use Rattle.tiff_ffi.proofs.Plans.{given_reads}
-use Rattle.tiff_ffi.proofs.SeenFiles.{in_order_of, of_order, tells_of}
+use Rattle.tiff_ffi.proofs.SeenFiles.{in_order_of, tells_of}
 use Rattle.tiff_ffi.proofs.in_windows.page_plan_in.Goals as goal
-
-pub plan_seen-requires : goal.plan_seen-requires
-plan_seen-requires g c =
-    record { of = of_order c.args.seen.now c.in-Some.windows.seen (c.in-Some.ensures).order.0 (c.in-Some.ensures).file g.file }
 
 pub returns-in-Ok-clause-answer : goal.returns-in-Ok-clause-answer
 returns-in-Ok-clause-answer g c =

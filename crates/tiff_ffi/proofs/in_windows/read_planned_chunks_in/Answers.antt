@@ -3,12 +3,8 @@ use Rattle.tiff_ffi.specs.Plan.{read_planned_chunks}
 use Rattle.tiff_ffi.specs.Status.{StatusTells}
 use Rattle.tiff_base.specs.Windows.{file_of}
 use Rattle.tiff_ffi.proofs.StatusTells.{tells_left}
-use Rattle.tiff_ffi.proofs.SeenFiles.{of_order, tells_of}
+use Rattle.tiff_ffi.proofs.SeenFiles.{tells_of}
 use Rattle.tiff_ffi.proofs.in_windows.read_planned_chunks_in.Goals as goal
-
-pub range_seen-requires : goal.range_seen-requires
-range_seen-requires g c =
-    record { of = of_order c.args.seen.now c.in-Some.windows.seen (c.in-Some.ensures).order.0 (c.in-Some.ensures).file g.file }
 
 pub returns-in-Ok : goal.returns-in-Ok
 returns-in-Ok g c =

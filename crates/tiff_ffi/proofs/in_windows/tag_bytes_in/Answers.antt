@@ -4,12 +4,8 @@ use Rattle.tiff_base.specs.Windows.{file_of}
 use Rattle.tiff_ffi.specs.InWindows.{tag_bytes}
 use Rattle.tiff_ffi.specs.Status.{StatusTells}
 use Rattle.tiff_ffi.proofs.StatusTells.{kept_told, tells_both}
-use Rattle.tiff_ffi.proofs.SeenFiles.{of_order, tells_of}
+use Rattle.tiff_ffi.proofs.SeenFiles.{tells_of}
 use Rattle.tiff_ffi.proofs.in_windows.tag_bytes_in.Goals as goal
-
-pub bytes_seen-requires : goal.bytes_seen-requires
-bytes_seen-requires g c =
-    record { of = of_order c.args.seen.now c.in-Some.windows.seen (c.in-Some.ensures).order.0 (c.in-Some.ensures).file g.file }
 
 pub returns-in-Ok : goal.returns-in-Ok
 returns-in-Ok g c =

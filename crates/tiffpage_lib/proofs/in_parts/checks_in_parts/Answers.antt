@@ -6,8 +6,10 @@ use Rattle.tiff_pages.specs.declared.check.PageCheck.{PageCheck}
 use Rattle.tiff_pages.specs.OfFile.{check_of, list_of}
 use Rattle.tiff_pages.specs.Pages.{pages_in}
 use Rattle.tiffpage_lib.specs.lemmas.Memory.{memory_out}
+use Rattle.tiffpage_lib.specs.Parts.{Saw}
 use Rattle.tiffpage_lib.proofs.InParts.{all_so_far, check_refused, one_so_far, pages_refused, pushed, saw_answer, saw_both, saw_if, saw_nothing, sees_refused}
 use Rattle.tiffpage_lib.proofs.in_parts.checks_in_parts.Goals as goal
+use Rattle.tiffpage_lib.proofs.in_parts.checks_in_parts.Goals.{In_ok-check}
 
 pub returns-in_err-pages : goal.returns-in_err-pages
 returns-in_err-pages g c =
@@ -26,30 +28,31 @@ returns-in_err-check g c =
     (check_refused c.args.limits.now file offset) c.loop-page.invariant c.in_err-check.ensures
     c.from_residual-in_err-check.ensures.1
 
-pub returns-then-is_err : goal.returns-then-is_err
-returns-then-is_err g c =
+-- What was seen of the file before a page, and of the check of the page.
+seen : (g : _) (c : In_ok-check g) (before : Type 0)
+    → Saw g.F.Files.reads_part c.args.name.now c.args.len g.S.SeenFile.bytes before c.args.files.now c.loop-page.files
+    → Saw g.F.Files.reads_part c.args.name.now c.args.len g.S.SeenFile.bytes (before × AnswersWithoutSource (λ (check : PageCheck). check) (Ok c.in_ok-check.check) (check_of g.S.SeenFile.bytes c.args.limits.now c.page-item.result.place.0)) c.args.files.now c.answer_by_parts-in-loop-page.new.files
+seen g c before so_far =
     let file = g.S.SeenFile.bytes in
     let may : Result PageCheck TiffError → Type 0 =
     λ answer. AnswersWithoutSource (λ (check : PageCheck). check) answer
     (check_of file c.args.limits.now c.page-item.result.place.0) in
     let last = c.answer_by_parts-in-loop-page.new.files in
-    let one =
-    saw_answer g.F.Files.reads_part c.args.name c.args.len file may c.loop-page.files last c.in_ok-check.check c.in_ok-check.ensures in
-    let both =
-    saw_both g.F.Files.reads_part c.args.name c.args.len file c.args.files.now c.loop-page.files last c.loop-page.invariant one in
+    saw_both g.F.Files.reads_part c.args.name c.args.len file c.args.files.now c.loop-page.files last so_far
+    (saw_answer g.F.Files.reads_part c.args.name c.args.len file may c.loop-page.files last c.in_ok-check.check c.in_ok-check.ensures)
+
+pub returns-then-is_err : goal.returns-then-is_err
+returns-then-is_err g c =
+    let file = g.S.SeenFile.bytes in
+    let last = c.answer_by_parts-in-loop-page.new.files in
+    let both = seen g (goal.at.returns-then-is_err g c).In_ok-check _ c.loop-page.invariant in
     inl (Err OutOfMemory, saw_if g.F.Files.reads_part c.args.name c.args.len file c.args.files.now last (λ h. memory_out) both, refl)
 
 pub loop-page-preserved : goal.loop-page-preserved
 loop-page-preserved g c =
     let file = g.S.SeenFile.bytes in
-    let may : Result PageCheck TiffError → Type 0 =
-    λ answer. AnswersWithoutSource (λ (check : PageCheck). check) answer
-    (check_of file c.args.limits.now c.page-item.result.place.0) in
     let last = c.answer_by_parts-in-loop-page.new.files in
-    let one =
-    saw_answer g.F.Files.reads_part c.args.name c.args.len file may c.loop-page.files last c.in_ok-check.check c.in_ok-check.ensures in
-    let both =
-    saw_both g.F.Files.reads_part c.args.name c.args.len file c.args.files.now c.loop-page.files last c.loop-page.invariant one in
+    let both = seen g (goal.at.loop-page-preserved g c).In_ok-check _ c.loop-page.invariant in
     saw_if g.F.Files.reads_part c.args.name c.args.len file c.args.files.now last
     (one_so_far c.args.limits.now file c.deref-page-items.result.now _ c.loop-page.page-index c.page-item.result c.in_ok-check.check c.loop-page.checks.items c.push.new.self.items
     c.loop-page-test.true c.page-item.is (pushed c.push.result c.is_err.result c.loop-page.checks.items c.push.new.self.items c.in_ok-check.check c.push.ensures.items c.is_err.ensures.value c.if-is_err.false))

@@ -1,13 +1,9 @@
-use Rattle.tiffpage_lib.proofs.Steps.{goes, makes, refuses, stops}
+use Rattle.tiffpage_lib.proofs.Steps.{goes, gives_lines, stops}
 use Rattle.tiffpage_lib.proofs.program.check_whole.Goals as goal
 
 pub returns-in_err-file : goal.returns-in_err-file
 returns-in_err-file g c = stops _ _ _ _ _ _ c.in_err-file.ensures c.from_residual.ensures.1
 
-pub returns-in_err-file_check : goal.returns-in_err-file_check
-returns-in_err-file_check g c = goes _ _ _ _ _ _ _ c.in_ok-file.ensures
-    (refuses _ _ _ _ c.in_err-file_check.ensures c.from_residual-in_err-file_check.ensures.1)
-
 pub returns : goal.returns
-returns g c = goes _ _ _ _ _ _ _ c.in_ok-file.ensures
-    (makes _ _ _ c.in_ok-file_check.ensures)
+returns g c =
+    goes _ _ _ _ _ _ _ c.in_ok-file.ensures (gives_lines _ _ _ _ c.file_check.ensures c.told_lines.ensures)

@@ -6,11 +6,8 @@ use Rattle.tiff_ffi.proofs.pages_sink.PagesSink.behind.Goals as goal
 pub overflow_sub-result : goal.overflow_sub-result
 overflow_sub-result g c =
     let s = c.args.self.now in
-    let b =
-    behind_len s.around.items s.fronts.items (page_samples s) s.kept s.in_fronts s.in_around in
     let size = s.sized in
-    let l = c.len.ensures in
-    omega (arith, b, size, l)
+    omega (arith, behind_len s.around.items s.fronts.items (page_samples s) s.kept s.in_fronts s.in_around, size, c.len.ensures)
 
 pub returns-clause-is : goal.returns-clause-is
 returns-clause-is g c =
@@ -26,8 +23,5 @@ returns-clause-is g c =
 pub returns-clause-end : goal.returns-clause-end
 returns-clause-end g c =
     let s = c.args.self.now in
-    let b =
-    behind_len s.around.items s.fronts.items (page_samples s) s.kept s.in_fronts s.in_around in
     let size = s.sized in
-    let l = c.len.ensures in
-    omega (arith, b, size, l)
+    omega (arith, behind_len s.around.items s.fronts.items (page_samples s) s.kept s.in_fronts s.in_around, size, c.len.ensures)

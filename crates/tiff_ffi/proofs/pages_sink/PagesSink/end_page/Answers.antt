@@ -4,6 +4,16 @@ use Rattle.tiff_ffi.specs.Spliced.{spliced}
 use Rattle.tiff_ffi.specs.PagesSink.{page_samples}
 use Rattle.tiff_ffi.proofs.Stored.{all_counted, is_page, length_ended}
 use Rattle.tiff_ffi.proofs.pages_sink.PagesSink.end_page.Goals as goal
+use Rattle.tiff_ffi.proofs.pages_sink.PagesSink.end_page.Goals.{In_ok-push_front}
+
+-- The front of the page is behind the others.
+added : (g : _) (c : In_ok-push_front g) → c.push_front.new.fronts.items
+    ≡ c.args.self.now.fronts.items ++ (length c.args.self.now.around.items - c.args.self.now.kept) ∷ []
+added g c =
+    let s = c.args.self.now in
+    let many : c.len-all.result ≡ length s.around.items =
+    (let l = c.len-all.ensures in let o = s.around.ok in omega (arith, l, o)) in
+    c.in_ok-push_front.ensures.ok ∙ ap (λ n. s.fronts.items ++ (n - s.kept) ∷ []) many
 
 pub invariant_of-self-2-clause-in_fronts : goal.invariant_of-self-2-clause-in_fronts
 invariant_of-self-2-clause-in_fronts g c =
@@ -22,12 +32,7 @@ invariant_of-self-2-clause-sized g c =
     let all = c.requires.all in
     let some = c.requires.some in
     let size = s.sized in
-    let many : c.len-all.result ≡ length s.around.items =
-    (let l = c.len-all.ensures in let o = s.around.ok in omega (arith, l, o)) in
-    let is : c.push_front.new.fronts.items ≡ s.fronts.items
-    ++ (length s.around.items - s.kept) ∷ [] =
-    c.in_ok-push_front.ensures.ok
-    ∙ ap (λ n. s.fronts.items ++ (n - s.kept) ∷ []) many in
+    let is = added g (goal.at.invariant_of-self-2-clause-sized g c).In_ok-push_front in
     let there = is_page (page_samples s) (length s.fronts.items) (omega (arith, all, some)) in
     let more =
     ap (λ l. length (spliced s.around.items l (page_samples s))) is
@@ -40,12 +45,7 @@ returns-clause-ok g c =
     let s = c.args.self.now in
     let all = c.requires.all in
     let some = c.requires.some in
-    let many : c.len-all.result ≡ length s.around.items =
-    (let l = c.len-all.ensures in let o = s.around.ok in omega (arith, l, o)) in
-    let is : c.push_front.new.fronts.items ≡ s.fronts.items
-    ++ (length s.around.items - s.kept) ∷ [] =
-    c.in_ok-push_front.ensures.ok
-    ∙ ap (λ n. s.fronts.items ++ (n - s.kept) ∷ []) many in
+    let is = added g (goal.at.returns-clause-ok g c).In_ok-push_front in
     let there = is_page (page_samples s) (length s.fronts.items) (omega (arith, all, some)) in
     ap (λ l. spliced s.around.items l (page_samples s) ++ []) is
     ∙ all_counted s.around.items s.fronts.items (page_samples s) s.kept s.in_fronts s.in_around

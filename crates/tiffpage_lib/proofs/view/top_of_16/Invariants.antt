@@ -1,6 +1,0 @@
-use Rattle.std.proofs.Common.{◌≡◌, take}
-use Rattle.tiffpage_lib.specs.View.{without_low}
-use Rattle.tiffpage_lib.proofs.view.top_of_16.Given as goal
-
-abbrev pub invariant-loop-number : goal.invariant-loop-number
-invariant-loop-number l = l.top.items ≡ without_low 8 (take l.number-index l.numbers)
