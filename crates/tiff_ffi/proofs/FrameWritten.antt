@@ -101,8 +101,8 @@ module _ (s : Settings) (width height failures : ℕ) (samples : List ℕ) (last
   zeros_written : leaves.IsWritten i zeros z.mid last
   zeros_written =
       data_written (Unit {0}) i zeros tt z.mid last
-      (data_done i zeros (length zeros) refl z.mid z.then last z.last
-      (none_refuses i new z.mid (length zeros) fresh (length-replicate (image_samples i) 0)) z.strips z.offsets z.ends)
+      (data_done i zeros (length zeros) refl z.mid z.mid z.then z.last
+      (none_refuses i new z.mid (length zeros) fresh (length-replicate (image_samples i) 0)) refl last z.strips z.offsets z.ends)
 
   abbrev frame_of : IsFramed s width height failures zeros samples same zeros_kept i z.mid last z.begun open_image zeros_written
   frame_of =
