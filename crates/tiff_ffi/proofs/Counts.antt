@@ -2,10 +2,10 @@
 use Rattle.std.proofs.Common.{◌≡◌, ◌≢◌, inl, inr, ℕ, Bool, ◌+◌, ◌-◌, ◌<◌, ◌≤◌, List, [], length, take, get_or, set, ap, sym, ◌∙◌, arith}
 use Rattle.std.proofs.lemmas.Bool.{cases_eq, eq-eqb, ne_eqb}
 use Rattle.std.proofs.lemmas.Grind.{get_or_default_zero}
-use Rattle.std.proofs.lemmas.List.{get_or-replicate, get_or-set_same, get_or-set_other, length-replicate, length-set, length-take-le}
+use Rattle.std.proofs.lemmas.List.{get_or-set_same, get_or-set_other, length-set, length-take-le}
 use Rattle.std.proofs.lemmas.List.Sums.{count_by-le-length, count_by_more_no, count_by_more_yes}
 use Rattle.std.proofs.lemmas.Option.{get_or_from_slice_get, slice_get-get_or}
-use Rattle.std.specs.Prelude.{◌==◌, replicate}
+use Rattle.std.specs.Prelude.{◌==◌}
 use Rattle.tiff_ffi.specs.declared.pages.NewPage.{NewPage}
 use Rattle.tiff_ffi.specs.Pages.{count_of, place_in}
 use Rattle.tiff_ffi.specs.Parents.{AreCounts, CountsBefore}

@@ -18,7 +18,7 @@ use Rattle.tiff_page.specs.Page.{PageRecord}
 use Rattle.tiff_page.specs.Counts.{all_chunks}
 use Rattle.tiff_page.specs.Layout.{color_of}
 use Rattle.tiff_page.specs.PixelCalls.{image_of}
-use Rattle.tiff_encode.specs.declared.encoder.settings.Compression.TheVariants.{Packbits, PackbitsRows}
+use Rattle.tiff_encode.specs.declared.encoder.settings.Compression.TheVariants.{Packbits}
 use Rattle.tiff_encode.specs.Machine.{OpenImage}
 use Rattle.tiff_encode.specs.Chunks.{image_page, next_chunk_sample_count, parts_left, sample_in}
 use Rattle.tiff_encode.specs.Calls as calls
